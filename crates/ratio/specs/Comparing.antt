@@ -6,7 +6,7 @@ use mathlib.Core.Bool.{Bool, true, false, not, _&&_, _||_, true≢false}
 use native.Mathlib.Nat.{le-of-lt, le-antisymm, add-comm}
 use native.Mathlib.Omega.{arith}
 use lib.Dec.{leb, ltb, eqb}
-use borrow.Author.Tests.{leb-true, leb-false, eqb-true, eqb-false, lt-ltb, le-ltb, le-leb, lt-leb, eq-eqb, ne-eqb}
+use borrow.Author.Tests.{leb-true, eqb-true, eqb-false, lt-ltb, le-ltb, le-leb, lt-leb, eq-eqb, ne-eqb}
 use lib.Ieee.{Float, nan, inf, fin, up, down, below, level, le, lt, eq}
 use lib.Ieee.Fits.{down-pos}
 use lib.Ieee.Exact.{HasValue}
@@ -14,15 +14,11 @@ use lib.Ieee.Order.{transfer}
 use Rattle.bits.specs.Tests.{by-bool, split}
 use Rattle.ratio.specs.Finite.{isFinite}
 
--- a test and the fact that it tests, another test of the same fact: the two are equal
-leb-same : (a b c d : ℕ) → (a ≤ b → c ≤ d) → (c ≤ d → a ≤ b) → leb a b ≡ leb c d
-leb-same a b c d h k =
-    by-bool (leb c d)
-    (λ e. le-leb a b (k (leb-true c d e)) ∙ sym e)
-    (λ e. by-bool (leb a b) (λ e'. absurd (no (leb-false c d e) (h (leb-true a b e')))) (λ e'. e' ∙ sym e))
-  where
-    no : d < c → c ≤ d → ⊥
-    no x y = omega arith
+-- a test that holds exactly where m <= n
+pub test-is : (b : Bool) (m n : ℕ) → (m ≤ n → b ≡ true) → (b ≡ true → m ≤ n) → b ≡ leb m n
+test-is b m n h k =
+    by-bool b (λ e. e ∙ sym (le-leb m n (k e)))
+    (λ e. split n m (λ l. e ∙ sym (lt-leb m n l)) (λ l. absurd (true≢false (sym (h l) ∙ e))))
 
 pub ltb-not : (a b : ℕ) → ltb a b ≡ not (leb b a)
 ltb-not a b = split a b (λ h. lt-ltb a b h ∙ ap not (sym (lt-leb b a h))) (λ h. le-ltb a b h ∙ ap not (sym (le-leb b a h)))
@@ -56,9 +52,9 @@ module _ (a c b d : ℕ) (C : 0 < c) (D : 0 < d) where
       let X = m * up e in
       let Y = n * up g in
       le-test (X * down g) (Y * down e)
-      ∙ leb-same (X * down g) (Y * down e) (a * d) (b * c)
-      (transfer a b c d X Y (down e) (down g) (down-pos e) (down-pos g) (sym (p .1)) (sym (q .1)))
-      (transfer X Y (down e) (down g) a b c d C D (p .1) (q .1))
+      ∙ test-is (leb (X * down g) (Y * down e)) (a * d) (b * c)
+      (λ h. le-leb (X * down g) (Y * down e) (transfer X Y (down e) (down g) a b c d C D (p .1) (q .1) h))
+      (λ t. transfer a b c d X Y (down e) (down g) (down-pos e) (down-pos g) (sym (p .1)) (sym (q .1)) (leb-true (X * down g) (Y * down e) t))
 
 -- ---- of two finite f32 of either sign, one is below the other exactly where the other is not at most it
 eqb-flip : (a b : ℕ) → eqb a b ≡ eqb b a

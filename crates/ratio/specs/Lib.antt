@@ -13,3 +13,6 @@ pub mod RoundedLaws
 pub mod Comparing
 pub mod Summing
 pub mod DemandLaws
+pub mod CutOffs
+pub mod CutOffLaws
+pub mod DemandExample

@@ -1,5 +1,5 @@
 -- A fraction within its bounds, rounded: how many parts of 2 ^ -149 it is and how far from the fraction (`rounded-once`), that it is
--- finite and has no minus sign (`rounded-plain`), that the quotient of two f32 counts is it (`rounded-is`), that 0 over 1 gives +0.0
+-- finite and has no minus sign (`rounded-plain`), that the quotient of two f32 counts is it (`rounded-is`, `rounded-factored`), that 0 over 1 gives +0.0
 -- (`rounded-nothing`), and that num <= k * den gives a ratio of at most k (`rounded-at-most`).
 -- Assumes nothing.
 use Prim.Native.Nat.{ℕ, _+_, _*_, _^_, _≤_, _<_}
@@ -10,7 +10,7 @@ use native.Mathlib.Nat.{lt-of-le-of-lt, mul-le-mul-right, mul-le-mul-left, mul-o
 use native.Mathlib.Omega.{arith}
 use lib.Dec.{T, lit<, lit≤}
 use lib.IntN.{pos}
-use lib.Ieee.{Float, binary32, round, div, ofInt, ofBits, le}
+use lib.Ieee.{Float, binary32, round, mul, div, ofInt, ofBits, le}
 use lib.Ieee.Bits.{is-true}
 use lib.Ieee.Exact.{HasValue}
 use lib.Ieee.Order.{round-mono}
@@ -23,7 +23,7 @@ use Rattle.ratio.specs.Finite.{Plain}
 use Rattle.ratio.specs.FiniteLaws.{plain-of}
 use Rattle.ratio.specs.Once.{Once}
 use Rattle.ratio.specs.Grid.{grid-once, grid-zero}
-use Rattle.ratio.specs.Operations.{counts-divided}
+use Rattle.ratio.specs.Operations.{counts-divided, counts-factored}
 
 -- numbers, with l parts to one
 none : (q l : ℕ) → Once (0 * q) (0 * l)
@@ -58,15 +58,26 @@ rounded-value f h =
 pub rounded-plain : (f : Fraction) → Proper f → Plain (rounded f)
 rounded-plain f h = plain-of (rounded f) (partsOf f) (rounded-value f h)
 
+-- an f32 holds both counts
+num-exact : (n : ℕ) → n ≤ MOST-NUM → n ≤ 2 ^ 24
+num-exact n h = omega arith
+
+den-exact : (n : ℕ) → n ≤ MOST-DEN → n ≤ 2 ^ 24
+den-exact n h = omega arith
+
 pub rounded-is : (f : Fraction) → Proper f → div binary32 (ofInt binary32 (pos (f .num))) (ofInt binary32 (pos (f .den))) ≡ rounded f
 unfolding rounded
-rounded-is f h = counts-divided (f .num) (f .den) (within (f .num) (h .small .num)) (h .positive) (within' (f .den) (h .small .den))
-  where
-    within : (n : ℕ) → n ≤ MOST-NUM → n ≤ 2 ^ 24
-    within n h = omega arith
+rounded-is f h = counts-divided (f .num) (f .den) (num-exact (f .num) (h .small .num)) (h .positive) (den-exact (f .den) (h .small .den))
 
-    within' : (n : ℕ) → n ≤ MOST-DEN → n ≤ 2 ^ 24
-    within' n h = omega arith
+-- the crate's quotient where it multiplies the count before: `count as f32 * 8.0 / all as f32`
+pub rounded-factored : (a k n : ℕ) → 0 < k → k ≤ 2 ^ 24 → Proper (record { num = a * k; den = n })
+    → div binary32 (mul binary32 (ofInt binary32 (pos a)) (ofInt binary32 (pos k))) (ofInt binary32 (pos n)) ≡ rounded (record { num = a * k; den = n })
+unfolding rounded
+rounded-factored a k n K L h =
+    counts-factored a k n (within (a * k) a (mul-le-mul-left a K) (h .small .num)) L (num-exact (a * k) (h .small .num)) (h .positive) (den-exact n (h .small .den))
+  where
+    within : (m a : ℕ) → a * 1 ≤ m → m ≤ MOST-NUM → a ≤ 2 ^ 24
+    within m a h k = omega arith
 
 pub rounded-nothing : rounded nothing ≡ ofBits binary32 0
 unfolding rounded round ofBits
