@@ -1,5 +1,5 @@
 // The built-in table of U+0000 to U+024F, written twice from one list: as Rattle constants and as antt lists.
-use crate::tables::{base_if_accented, point, BUILTIN_END};
+use crate::tables::{BUILTIN_END, base_if_accented, point};
 use oracle::open::crate_class;
 use std::fmt::Write;
 
@@ -61,11 +61,10 @@ fn antt(columns: &[Column]) -> String {
     out
 }
 
+// The names end in .txt, since the kit refuses a Rattle or antt file that stands in no crate.
 pub fn write(dir: &str) -> std::io::Result<()> {
     let columns = columns();
-    for part in ["src", "specs"] {
-        std::fs::create_dir_all(format!("{dir}/{part}"))?;
-    }
-    std::fs::write(format!("{dir}/src/words.rt"), rattle(&columns))?;
-    std::fs::write(format!("{dir}/specs/Words.antt"), antt(&columns))
+    std::fs::create_dir_all(dir)?;
+    std::fs::write(format!("{dir}/words.rt.txt"), rattle(&columns))?;
+    std::fs::write(format!("{dir}/Words.antt.txt"), antt(&columns))
 }

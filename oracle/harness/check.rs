@@ -1,6 +1,6 @@
 // Holds the crate's data to the rules of document 01, over every scalar value, and notes what else was seen.
 // A rule stands in 01 and must hold; an observation stands nowhere, and our code may not lean on it.
-use crate::tables::{point, scalars, BUILTIN_END, CHAR_ALPHABETIC};
+use crate::tables::{BUILTIN_END, CHAR_ALPHABETIC, point, scalars};
 use oracle::assets::LANGUAGES;
 use oracle::consts::UNICODE_RANGES_COMBINED;
 use oracle::md::structs::MessDetectorCharFlags as Flags;
@@ -57,9 +57,15 @@ fn rules(c: char, rules: &mut Sentences) {
     rule("UPPERCASE and LOWERCASE not both", !(has(Flags::UPPERCASE) && has(Flags::LOWERCASE)));
     rule("CASE_VARIABLE exactly with one of them", has(Flags::CASE_VARIABLE) == (has(Flags::UPPERCASE) || has(Flags::LOWERCASE)));
     rule("and then ALPHABETIC", !has(Flags::CASE_VARIABLE) || has(Flags::ALPHABETIC));
-    rule("ALPHABETIC, NUMERIC, WHITESPACE and UNPRINTABLE at most one", few(&[Flags::ALPHABETIC, Flags::NUMERIC, Flags::WHITESPACE, Flags::UNPRINTABLE]));
+    rule(
+        "ALPHABETIC, NUMERIC, WHITESPACE and UNPRINTABLE at most one",
+        few(&[Flags::ALPHABETIC, Flags::NUMERIC, Flags::WHITESPACE, Flags::UNPRINTABLE]),
+    );
     rule("WHITESPACE brings SEPARATOR", !has(Flags::WHITESPACE) || has(Flags::SEPARATOR));
-    rule("WHITESPACE excludes COMMON_SAFE, WEIRD_SAFE and EMOTICON", !has(Flags::WHITESPACE) || !(has(Flags::COMMON_SAFE) || has(Flags::WEIRD_SAFE) || has(Flags::EMOTICON)));
+    rule(
+        "WHITESPACE excludes COMMON_SAFE, WEIRD_SAFE and EMOTICON",
+        !has(Flags::WHITESPACE) || !(has(Flags::COMMON_SAFE) || has(Flags::WEIRD_SAFE) || has(Flags::EMOTICON)),
+    );
     rule("at most one of the six scripts", few(&[Flags::LATIN, Flags::CJK, Flags::HANGUL, Flags::KATAKANA, Flags::HIRAGANA, Flags::THAI]));
     rule("ASCII exactly on the ASCII characters", has(Flags::ASCII) == c.is_ascii());
     rule("ASCII_ALPHABETIC exactly on the ASCII letters", has(Flags::ASCII_ALPHABETIC) == c.is_ascii_alphabetic());
@@ -69,7 +75,10 @@ fn rules(c: char, rules: &mut Sentences) {
     rule("bit 24 means char::is_alphabetic", (class.flags & CHAR_ALPHABETIC != 0) == c.is_alphabetic());
     rule("bits 25 to 31 are clear", class.flags >> 25 == 0);
     rule("range at most 511", class.range <= 511);
-    rule("each letter has one lower-case letter; U+0130 has U+0069", if c == '\u{130}' { class.lower == 0x69 } else { c.to_lowercase().count() == 1 });
+    rule(
+        "each letter has one lower-case letter; U+0130 has U+0069",
+        if c == '\u{130}' { class.lower == 0x69 } else { c.to_lowercase().count() == 1 },
+    );
 }
 
 fn observations(c: char, seen: &mut Sentences) {
@@ -122,11 +131,15 @@ fn pairs() {
     let all = || (0..=last).flat_map(|a| (0..=last).map(move |b| (a, b)));
     let suspicious = all().filter(|(a, b)| pair(*a, *b)).count();
     let one_way = all().filter(|(a, b)| pair(*a, *b) != pair(*b, *a)).count();
-    println!("seen: of the pairs of 0 to {last}, {suspicious} are suspicious; {one_way} are so one way only; a range after itself: {}", (1..=last).filter(|a| pair(*a, *a)).count());
+    println!(
+        "seen: of the pairs of 0 to {last}, {suspicious} are suspicious; {one_way} are so one way only; a range after itself: {}",
+        (1..=last).filter(|a| pair(*a, *a)).count()
+    );
 }
 
 fn lowered_out() {
-    let out: Vec<String> = (0..BUILTIN_END).map(point).filter(|c| lower(*c) as u32 >= BUILTIN_END).map(|c| format!("{:04X}", c as u32)).collect();
+    let out: Vec<String> =
+        (0..BUILTIN_END).map(point).filter(|c| lower(*c) as u32 >= BUILTIN_END).map(|c| format!("{:04X}", c as u32)).collect();
     println!("seen: {} built-in letters have a lower-case letter past U+024F: {}", out.len(), out.join(" "));
 }
 
@@ -136,7 +149,11 @@ fn languages() {
     let mut seen = BTreeSet::new();
     numbers.retain(|n| seen.insert(*n));
     let most = LANGUAGES.iter().map(|r| r.1.chars().count()).max().unwrap_or(0);
-    println!("seen: {records} language records, {} languages, at most {most} letters; numbers rise in the order of first records: {}", numbers.len(), numbers.is_sorted());
+    println!(
+        "seen: {records} language records, {} languages, at most {most} letters; numbers rise in the order of first records: {}",
+        numbers.len(),
+        numbers.is_sorted()
+    );
     for (language, letters, _, _) in LANGUAGES.iter() {
         let letters: Vec<char> = letters.chars().collect();
         let distinct: BTreeSet<char> = letters.iter().copied().collect();
@@ -149,7 +166,7 @@ fn languages() {
 
 pub fn run() -> bool {
     let (major, minor, update) = char::UNICODE_VERSION;
-    println!("Unicode of rustc's char: {major}.{minor}.{update}; of the ICU side: {}", properties::version().trim_start_matches("# Unicode "));
+    println!("Unicode of rustc's char: {major}.{minor}.{update}; of the ICU side: {}", properties::version());
     let (mut must, mut seen) = (Sentences::default(), Sentences::default());
     for c in scalars() {
         rules(c, &mut must);

@@ -96,14 +96,14 @@ fn class_record(r: &[u8]) -> (u32, u32, Class) {
     (word_at(r, 0), word_at(r, 4), class)
 }
 
-fn language_record(r: &[u8]) -> LangRow {
+fn language_record(r: &[u8]) -> LanguageRow {
     let (count, marks) = (word_at(r, 4) & 0xFFFF, word_at(r, 4) >> 16);
     let letters: String = (0..count as usize).map(|i| point(word_at(r, 8 + 4 * i))).collect();
     (*language(word_at(r, 0)).expect("a language"), letters.leak(), marks & 1 != 0, marks & 2 != 0)
 }
 
-fn lend(change: impl FnOnce(&mut Over)) -> Option<String> {
-    OVER.with(|o| change(&mut o.borrow_mut()));
+fn lend(change: impl FnOnce(&mut Lent)) -> Option<String> {
+    LENT.with_borrow_mut(change);
     None
 }
 
@@ -122,19 +122,19 @@ fn answer(words: &[&str]) -> std::io::Result<Option<String>> {
         }),
         ["classes", file] => {
             let bytes = std::fs::read(file)?;
-            lend(|o| o.records = Some(bytes.chunks(24).map(class_record).collect()))
+            lend(|o| o.classes = Some(bytes.chunks(24).map(class_record).collect()))
         }
         ["pairs", file] => {
             let bytes = std::fs::read(file)?;
-            lend(|o| o.pair = Some(bytes))
+            lend(|o| o.pairs = Some(bytes))
         }
         ["languages", file] => {
             let bytes = std::fs::read(file)?;
-            let records: Vec<LangRow> = bytes.chunks(1032).map(language_record).collect();
-            lend(|o| o.langs = Some(records.leak()))
+            let records: Vec<LanguageRow> = bytes.chunks(1032).map(language_record).collect();
+            lend(|o| o.languages = Some(records.leak()))
         }
         ["small", n] => lend(|o| o.small = Some(decimal(n))),
-        ["reset"] => lend(|o| *o = Over::default()),
+        ["reset"] => lend(|o| *o = Lent::default()),
         _ => return Err(std::io::Error::other(format!("unknown request: {}", words.join(" ")))),
     })
 }

@@ -2,7 +2,7 @@
 use oracle::assets::LANGUAGES;
 use oracle::consts::UNICODE_RANGES_COMBINED;
 use oracle::md::structs::MessDetectorCharFlags as Flags;
-use oracle::open::{crate_class, number, pair, Class};
+use oracle::open::{Class, crate_class, number, pair};
 use std::fmt::Write;
 
 pub const BUILTIN_END: u32 = 0x250;
@@ -53,7 +53,9 @@ fn flag_names(flags: u32) -> String {
 
 fn classes() -> (Vec<u8>, String) {
     let mut bytes = vec![];
-    let mut text = String::from("# FIRST LAST FLAGS RANGE BASE LOWER NAMES: code points and flags hex, range decimal; base or lower 0: the character itself\n");
+    let mut text = String::from(
+        "# FIRST LAST FLAGS RANGE BASE LOWER NAMES: code points and flags hex, range decimal; base or lower 0: the character itself\n",
+    );
     for Record { first, last, class } in class_records() {
         for word in [first, last, class.flags] {
             bytes.extend(word.to_le_bytes());
@@ -63,7 +65,14 @@ fn classes() -> (Vec<u8>, String) {
         for word in [class.base, class.lower] {
             bytes.extend(word.to_le_bytes());
         }
-        let line = format!("{first:04X} {last:04X} {:07X} {} {:X} {:X} {}", class.flags, class.range, class.base, class.lower, flag_names(class.flags));
+        let line = format!(
+            "{first:04X} {last:04X} {:07X} {} {:X} {:X} {}",
+            class.flags,
+            class.range,
+            class.base,
+            class.lower,
+            flag_names(class.flags)
+        );
         writeln!(text, "{}", line.trim_end()).unwrap();
     }
     (bytes, text)
@@ -84,7 +93,9 @@ fn runs(numbers: &[usize]) -> String {
 
 fn pairs() -> (Vec<u8>, String) {
     let mut bytes = vec![0u8; RANGES * RANGES / 8];
-    let mut text = String::from("# A: the ranges B for which B after A is suspicious (numbers as in ranges.txt; 0 is no range; a row without any is left out)\n");
+    let mut text = String::from(
+        "# A: the ranges B for which B after A is suspicious (numbers as in ranges.txt; 0 is no range; a row without any is left out)\n",
+    );
     for a in 0..RANGES {
         let row: Vec<usize> = (0..RANGES).filter(|b| pair(a, *b)).collect();
         for b in &row {

@@ -1,45 +1,100 @@
-// The part of icu_properties 1.x that md/structs.rs uses, over the crate `properties`.
+// The part of icu_properties 1.x that md/structs.rs uses, over the stand-in `properties`.
+use properties::of;
+
+// A general category is its two letters, so that the names below can stand in a pattern.
 #[derive(Clone, Copy, PartialEq, Eq, Debug)]
-pub enum GeneralCategory {
-    Unassigned, UppercaseLetter, LowercaseLetter, TitlecaseLetter, ModifierLetter, OtherLetter, NonspacingMark, EnclosingMark, SpacingMark,
-    DecimalNumber, LetterNumber, OtherNumber, SpaceSeparator, LineSeparator, ParagraphSeparator, Control, Format, PrivateUse, Surrogate,
-    DashPunctuation, OpenPunctuation, ClosePunctuation, ConnectorPunctuation, OtherPunctuation, MathSymbol, CurrencySymbol, ModifierSymbol,
-    OtherSymbol, InitialPunctuation, FinalPunctuation,
+pub struct GeneralCategory([u8; 2]);
+
+#[allow(non_upper_case_globals)]
+impl GeneralCategory {
+    pub const OtherPunctuation: Self = Self(*b"Po");
+    pub const DashPunctuation: Self = Self(*b"Pd");
+    pub const ConnectorPunctuation: Self = Self(*b"Pc");
 }
-use GeneralCategory::*;
-const ALL: [GeneralCategory; 30] = [Unassigned, UppercaseLetter, LowercaseLetter, TitlecaseLetter, ModifierLetter, OtherLetter, NonspacingMark,
-    EnclosingMark, SpacingMark, DecimalNumber, LetterNumber, OtherNumber, SpaceSeparator, LineSeparator, ParagraphSeparator, Control, Format,
-    PrivateUse, Surrogate, DashPunctuation, OpenPunctuation, ClosePunctuation, ConnectorPunctuation, OtherPunctuation, MathSymbol,
-    CurrencySymbol, ModifierSymbol, OtherSymbol, InitialPunctuation, FinalPunctuation];
-pub struct GeneralCategoryGroup(u32);
+
+// A group is the letters that its categories begin with.
+pub struct GeneralCategoryGroup(&'static [u8]);
+
 #[allow(non_upper_case_globals)]
 impl GeneralCategoryGroup {
-    pub const Control: Self = Self(1 << Control as u32); // Cc alone, as in ICU4X; the union of the C's is its `Other`
-    pub const Separator: Self = Self(1 << SpaceSeparator as u32 | 1 << LineSeparator as u32 | 1 << ParagraphSeparator as u32);
-    pub const Number: Self = Self(1 << DecimalNumber as u32 | 1 << LetterNumber as u32 | 1 << OtherNumber as u32);
-    pub const Punctuation: Self = Self(1 << DashPunctuation as u32 | 1 << OpenPunctuation as u32 | 1 << ClosePunctuation as u32
-        | 1 << ConnectorPunctuation as u32 | 1 << OtherPunctuation as u32 | 1 << InitialPunctuation as u32 | 1 << FinalPunctuation as u32);
-    pub const Symbol: Self = Self(1 << MathSymbol as u32 | 1 << CurrencySymbol as u32 | 1 << ModifierSymbol as u32 | 1 << OtherSymbol as u32);
-    pub fn contains(&self, g: GeneralCategory) -> bool { self.0 >> g as u32 & 1 == 1 }
+    pub const Control: Self = Self(b"Cc"); // Cc alone: the group of all that begin with C is ICU4X's `Other`
+    pub const Separator: Self = Self(b"Z");
+    pub const Number: Self = Self(b"N");
+    pub const Punctuation: Self = Self(b"P");
+    pub const Symbol: Self = Self(b"S");
+
+    pub fn contains(&self, category: GeneralCategory) -> bool {
+        category.0.starts_with(self.0)
+    }
 }
+
 #[derive(Clone, Copy, PartialEq, Eq, Debug)]
-pub enum Script { Other, Latin, Han, Hangul, Katakana, Hiragana, Thai }
-pub mod maps {
-    pub struct G; pub struct S;
-    pub fn general_category() -> G { G }
-    pub fn script() -> S { S }
-    impl G { pub fn get(&self, c: char) -> super::GeneralCategory { super::ALL[properties::of(c).gc as usize] } }
-    impl S { pub fn get(&self, c: char) -> super::Script {
-        use super::Script::*;
-        [Other, Latin, Han, Hangul, Katakana, Hiragana, Thai][properties::of(c).sc as usize] } }
+pub enum Script {
+    Other,
+    Latin,
+    Han,
+    Hangul,
+    Katakana,
+    Hiragana,
+    Thai,
 }
+
+pub mod maps {
+    use super::{GeneralCategory, Script, of};
+
+    pub struct Categories;
+    pub struct Scripts;
+
+    pub fn general_category() -> Categories {
+        Categories
+    }
+
+    pub fn script() -> Scripts {
+        Scripts
+    }
+
+    impl Categories {
+        pub fn get(&self, c: char) -> GeneralCategory {
+            GeneralCategory(of(c).category)
+        }
+    }
+
+    impl Scripts {
+        pub fn get(&self, c: char) -> Script {
+            use Script::*;
+            [Other, Latin, Han, Hangul, Katakana, Hiragana, Thai][of(c).script as usize]
+        }
+    }
+}
+
 pub mod sets {
-    pub struct E(u8); pub struct U;
-    pub fn emoji_component() -> E { E(1) }
-    pub fn emoji_modifier() -> E { E(2) }
-    pub fn emoji_modifier_base() -> E { E(4) }
-    pub fn emoji_presentation() -> E { E(8) }
-    pub fn unified_ideograph() -> U { U }
-    impl E { pub fn contains(&self, c: char) -> bool { properties::of(c).em & self.0 != 0 } }
-    impl U { pub fn contains(&self, c: char) -> bool { properties::of(c).ui } }
+    use super::of;
+
+    pub struct Set(fn(char) -> bool);
+
+    impl Set {
+        pub fn contains(&self, c: char) -> bool {
+            self.0(c)
+        }
+    }
+
+    pub fn emoji_component() -> Set {
+        Set(|c| of(c).emoji & 1 != 0)
+    }
+
+    pub fn emoji_modifier() -> Set {
+        Set(|c| of(c).emoji & 2 != 0)
+    }
+
+    pub fn emoji_modifier_base() -> Set {
+        Set(|c| of(c).emoji & 4 != 0)
+    }
+
+    pub fn emoji_presentation() -> Set {
+        Set(|c| of(c).emoji & 8 != 0)
+    }
+
+    pub fn unified_ideograph() -> Set {
+        Set(|c| of(c).unified_ideograph)
+    }
 }

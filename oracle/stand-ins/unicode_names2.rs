@@ -1,2 +1,4 @@
-// is_accentuated asks only whether the name holds one of six patterns; the data file has the answer.
-pub fn name(c: char) -> Option<&'static str> { Some(if properties::of(c).acc { "WITH GRAVE" } else { "" }) }
+// is_accentuated asks only whether a name holds one of six patterns, which `properties` knows; the name given here holds one or none.
+pub fn name(c: char) -> Option<&'static str> {
+    properties::of(c).accentuated.then_some("WITH GRAVE")
+}
