@@ -1,2 +1,15 @@
 pub mod Fraction
 pub mod FractionLaws
+pub mod Rounded
+pub mod Demand
+pub mod Finite
+pub mod FiniteLaws
+pub mod Once
+pub mod Apart
+pub mod Operations
+pub mod Grid
+pub mod Parts
+pub mod RoundedLaws
+pub mod Comparing
+pub mod Summing
+pub mod DemandLaws

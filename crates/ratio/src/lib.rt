@@ -3,6 +3,9 @@ ghost use mathlib.Core.Path.{_≡_};
 ghost use Prim.Native.Nat.{_≤_};
 ghost use Rattle.ratio.specs.Fraction.{MOST-TERM, Small, atLeast, kept};
 
+pub mod finite;
+pub mod rounding;
+
 // Two counts, `num` over `den`. What a detector answers is 0 over 1 where it is cut off or over 0.
 pub struct Fraction {
     pub num: u32,

@@ -1,0 +1,79 @@
+-- A fraction within its bounds, rounded: how many parts of 2 ^ -149 it is and how far from the fraction (`rounded-once`), that it is
+-- finite and has no minus sign (`rounded-plain`), that the quotient of two f32 counts is it (`rounded-is`), that 0 over 1 gives +0.0
+-- (`rounded-nothing`), and that num <= k * den gives a ratio of at most k (`rounded-at-most`).
+-- Assumes nothing.
+use Prim.Native.Nat.{ℕ, _+_, _*_, _^_, _≤_, _<_}
+use mathlib.Core.Path.{_≡_, refl, sym, subst}
+use mathlib.Core.Bool.{Bool, true, false}
+use mathlib.Core.Logic.{inl, inr}
+use native.Mathlib.Nat.{lt-of-le-of-lt, mul-le-mul-right, mul-le-mul-left, mul-one, eq-zero-or-pos}
+use native.Mathlib.Omega.{arith}
+use lib.Dec.{T, lit<, lit≤}
+use lib.IntN.{pos}
+use lib.Ieee.{Float, binary32, round, div, ofInt, ofBits, le}
+use lib.Ieee.Bits.{is-true}
+use lib.Ieee.Exact.{HasValue}
+use lib.Ieee.Order.{round-mono}
+use lib.Ieee.Scale.{grid, round-val}
+use Rattle.ratio.specs.declared.Fraction.{Fraction}
+use Rattle.ratio.specs.Fraction.{MOST-NUM, MOST-DEN, Proper, nothing}
+use Rattle.ratio.specs.Rounded.{rounded}
+use Rattle.ratio.specs.Demand.{ONE}
+use Rattle.ratio.specs.Finite.{Plain}
+use Rattle.ratio.specs.FiniteLaws.{plain-of}
+use Rattle.ratio.specs.Once.{Once}
+use Rattle.ratio.specs.Grid.{grid-once, grid-zero}
+use Rattle.ratio.specs.Operations.{counts-divided}
+
+-- numbers, with l parts to one
+none : (q l : ℕ) → Once (0 * q) (0 * l)
+none q l = omega arith
+
+normal : (p q l : ℕ) → 0 < p → q ≤ MOST-DEN → 2 ^ 41 ≤ l → 2 ^ 23 * q ≤ p * l
+normal p q l P Q L = omega (arith, mul-le-mul-right l P)
+
+few : (r p q l : ℕ) → p ≤ MOST-NUM → 0 < q → Once (r * q) (p * l) → r ≤ 2 * MOST-NUM * l
+few r p q l P Q o = omega (arith, mul-le-mul-right l P, mul-le-mul-left r Q)
+
+-- the parts that a fraction is rounded to
+abbrev pub partsOf : Fraction → ℕ
+partsOf f = grid binary32 (f .num) (f .den)
+
+pub rounded-once : (f : Fraction) → Proper f → Once (partsOf f * f .den) (f .num * ONE)
+rounded-once f h = go (f .num) (f .den) (h .positive) (h .small .den)
+  where
+    go : (p q : ℕ) → 0 < q → q ≤ MOST-DEN → Once (grid binary32 p q * q) (p * ONE)
+    go p q Q R =
+        elim (eq-zero-or-pos p) [
+          | inl e ↦ subst (λ (z : ℕ). Once (grid binary32 z q * q) (z * ONE)) (sym e) (subst (λ (z : ℕ). Once (z * q) (0 * ONE)) (sym (grid-zero q Q)) (none q ONE))
+          | inr P ↦ grid-once p q Q (normal p q ONE P R (lit≤ tt))
+        ]
+
+pub rounded-value : (f : Fraction) → Proper f → HasValue (rounded f) false (partsOf f) ONE
+unfolding rounded
+rounded-value f h =
+    round-val binary32 (f .num) (f .den)
+    (lt-of-le-of-lt (few (partsOf f) (f .num) (f .den) ONE (h .small .num) (h .positive) (rounded-once f h)) (lit< tt))
+
+pub rounded-plain : (f : Fraction) → Proper f → Plain (rounded f)
+rounded-plain f h = plain-of (rounded f) (partsOf f) (rounded-value f h)
+
+pub rounded-is : (f : Fraction) → Proper f → div binary32 (ofInt binary32 (pos (f .num))) (ofInt binary32 (pos (f .den))) ≡ rounded f
+unfolding rounded
+rounded-is f h = counts-divided (f .num) (f .den) (within (f .num) (h .small .num)) (h .positive) (within' (f .den) (h .small .den))
+  where
+    within : (n : ℕ) → n ≤ MOST-NUM → n ≤ 2 ^ 24
+    within n h = omega arith
+
+    within' : (n : ℕ) → n ≤ MOST-DEN → n ≤ 2 ^ 24
+    within' n h = omega arith
+
+pub rounded-nothing : rounded nothing ≡ ofBits binary32 0
+unfolding rounded round ofBits
+rounded-nothing = refl
+
+pub rounded-at-most : (k : ℕ) (f : Fraction) → Proper f → f .num ≤ k * f .den → le (rounded f) (ofInt binary32 (pos k)) ≡ true
+unfolding rounded ofInt
+rounded-at-most k f h m =
+    is-true (le (round binary32 false (f .num) (f .den)) (round binary32 false k 1))
+    (round-mono binary32 (f .num) (f .den) k 1 (h .positive) (lit< tt) (rw mul-one m))
