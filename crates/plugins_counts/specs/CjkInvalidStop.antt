@@ -1,0 +1,34 @@
+-- CJK stops (01): "U+4E04 and U+4E05 over CJK characters, 0 below 16." The Rust's CjkInvalidStopPlugin, where a stop is not counted among
+-- the CJK characters, whatever its flags. The laws stand in CjkInvalidStopLaws.
+-- Assumes nothing.
+use Prim.Native.Nat.{ℕ, _+_, _<_, _^_}
+use mathlib.Core.Bool.{Bool, not, _&&_, _||_}
+use lib.Dec.{eqb}
+use Rattle.bits.specs.Flags.{has, CJK}
+use Rattle.bits.specs.Numbers.{bump}
+use Rattle.classes.specs.declared.Class.{Class}
+use Rattle.plugins_counts.specs.declared.cjk_invalid_stop.CjkInvalidStop.{CjkInvalidStop}
+
+abbrev pub STOP-UP : ℕ
+STOP-UP = 0x4E04
+
+abbrev pub STOP-DOWN : ℕ
+STOP-DOWN = 0x4E05
+
+abbrev pub wrongStop : ℕ → Bool
+wrongStop p = eqb p STOP-UP || eqb p STOP-DOWN
+
+abbrev pub start : CjkInvalidStop
+start = record { wrong = 0; cjk = 0 }
+
+unfoldable pub feed : CjkInvalidStop → Class → CjkInvalidStop
+feed s c =
+    record {
+      wrong = s .wrong + bump (wrongStop (c .point));
+      cjk = s .cjk + bump (not (wrongStop (c .point)) && has (c .flags) CJK);
+    }
+
+-- room for one character more in each count
+pub record Room (s : CjkInvalidStop) : Type 0 where
+  pub wrong : s .wrong < 2 ^ 24
+  pub cjk : s .cjk < 2 ^ 24

@@ -1,0 +1,4 @@
+pub mod TooManySymbolOrPunctuation
+pub mod TooManyAccentuated
+pub mod Unprintable
+pub mod CjkInvalidStop

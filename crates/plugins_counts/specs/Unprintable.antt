@@ -1,0 +1,22 @@
+-- Unprintable (01): "8u/n", u the unprintable ones of the n characters fed. The Rust's UnprintablePlugin. The laws stand in UnprintableLaws.
+-- Assumes nothing.
+use Prim.Native.Nat.{ℕ, _+_, _<_, _^_}
+use Rattle.bits.specs.Flags.{has, UNPRINTABLE}
+use Rattle.bits.specs.Numbers.{bump}
+use Rattle.classes.specs.declared.Class.{Class}
+use Rattle.plugins_counts.specs.declared.unprintable.Unprintable.{Unprintable}
+
+abbrev pub start : Unprintable
+start = record { characters = 0; unprintable = 0 }
+
+unfoldable pub feed : Unprintable → Class → Unprintable
+feed s c =
+    record {
+      characters = s .characters + 1;
+      unprintable = s .unprintable + bump (has (c .flags) UNPRINTABLE);
+    }
+
+-- room for one character more in each count
+pub record Room (s : Unprintable) : Type 0 where
+  pub characters : s .characters < 2 ^ 24
+  pub unprintable : s .unprintable < 2 ^ 24
