@@ -1,9 +1,12 @@
 -- Unprintable (01): "8u/n", u the unprintable ones of the n characters fed. The Rust's UnprintablePlugin. The laws stand in UnprintableLaws.
 -- Assumes nothing.
-use Prim.Native.Nat.{ℕ, _+_, _<_, _^_}
+use Prim.Native.Nat.{ℕ, _+_, _*_, _≤_}
+use mathlib.Core.Bool.{true}
 use Rattle.bits.specs.Flags.{has, UNPRINTABLE}
 use Rattle.bits.specs.Numbers.{bump}
 use Rattle.classes.specs.declared.Class.{Class}
+use Rattle.ratio.specs.declared.Fraction.{Fraction}
+use Rattle.ratio.specs.Fraction.{MOST-NUM, kept}
 use Rattle.plugins_counts.specs.declared.unprintable.Unprintable.{Unprintable}
 
 abbrev pub start : Unprintable
@@ -16,7 +19,14 @@ feed s c =
       unprintable = s .unprintable + bump (has (c .flags) UNPRINTABLE);
     }
 
+-- "8u/n"
+abbrev pub share : Unprintable → Fraction
+share s = record { num = 8 * s .unprintable; den = s .characters }
+
+unfoldable pub fraction : Unprintable → Fraction
+fraction s = kept true (share s)
+
 -- room for one character more in each count
 pub record Room (s : Unprintable) : Type 0 where
-  pub characters : s .characters < 2 ^ 24
-  pub unprintable : s .unprintable < 2 ^ 24
+  pub characters : s .characters ≤ MOST-NUM
+  pub unprintable : s .unprintable ≤ MOST-NUM

@@ -1,6 +1,7 @@
 // Symbols: how many of the printable characters are punctuation or symbols, a symbol being worth two.
 ghost use mathlib.Core.Path.{_≡_};
-ghost use Rattle.plugins_counts.specs.TooManySymbolOrPunctuation.{start, feed, counts, countedSymbol, Room};
+ghost use Rattle.plugins_counts.specs.TooManySymbolOrPunctuation.{start, feed, counts, countedSymbol, share, fraction, Room};
+ghost use Rattle.ratio.specs.Fraction.{Small};
 use bits::flags::COMMON_SAFE;
 use bits::flags::EMOTICON;
 use bits::flags::NUMERIC;
@@ -10,6 +11,9 @@ use bits::flags::UNPRINTABLE;
 use bits::is_set;
 use bits::one;
 use classes::Class;
+use ratio::Fraction;
+use ratio::at_least;
+use ratio::kept;
 
 // The Rust's TooManySymbolOrPunctuationPlugin.
 pub struct TooManySymbolOrPunctuation {
@@ -71,5 +75,16 @@ impl TooManySymbolOrPunctuation {
             seen: true,
             last: point,
         }
+    }
+
+    pub fn fraction(self) -> Fraction
+        requires { ⌜ Small (share self) ⌝ }
+        ensures { λ r. ⌜ r ≡ fraction self ⌝ }
+    {
+        let share = Fraction {
+            num: self.punctuation + 2 * self.symbols,
+            den: self.characters,
+        };
+        kept(at_least(share, 3, 10), share)
     }
 }

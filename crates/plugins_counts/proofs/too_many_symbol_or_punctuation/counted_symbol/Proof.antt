@@ -1,30 +1,23 @@
+-- The four flag tests, in the definition's order. Assumes nothing.
 use Rattle.plugins_counts.specs.TooManySymbolOrPunctuation.{countedSymbol}
 use borrow.Author.Needs.{needs}
 use Rattle.plugins_counts.proofs.too_many_symbol_or_punctuation.counted_symbol.Statement.{
   statement,
 }
 use Rattle.plugins_counts.proofs.too_many_symbol_or_punctuation.counted_symbol.Tie as tie
-use Rattle.plugins_counts.proofs.too_many_symbol_or_punctuation.counted_symbol.Reads as reads
-use Rattle.plugins_counts.proofs.too_many_symbol_or_punctuation.counted_symbol.Lts as lts
-use Rattle.bits.proofs.is_set.Reads as is-set-reads
 
--- src/too_many_symbol_or_punctuation.rt:32:6
 is-set-requires : tie.Need-is-set-requires
 is-set-requires c κs = search needs
 
--- src/too_many_symbol_or_punctuation.rt:33:12
 is-set-requires-2 : tie.Need-is-set-requires-2
 is-set-requires-2 c κs = search needs
 
--- src/too_many_symbol_or_punctuation.rt:34:11
 is-set-requires-3 : tie.Need-is-set-requires-3
 is-set-requires-3 c κs = search needs
 
--- src/too_many_symbol_or_punctuation.rt:35:12
 is-set-requires-4 : tie.Need-is-set-requires-4
 is-set-requires-4 c κs = search needs
 
--- src/too_many_symbol_or_punctuation.rt:29:1
 returns : tie.Need-returns
 unfolding countedSymbol
 returns c = cc
