@@ -1,0 +1,22 @@
+use Rattle.plugins_words.specs.SuperWeirdWord.{long, camel}
+use borrow.Author.Needs.{needs}
+use Rattle.plugins_words.proofs.super_weird_word.SuperWeirdWord.long.Statement.{statement}
+use Rattle.plugins_words.proofs.super_weird_word.SuperWeirdWord.long.Tie as tie
+use Rattle.plugins_words.proofs.super_weird_word.SuperWeirdWord.long.Reads as reads
+use Rattle.plugins_words.proofs.super_weird_word.SuperWeirdWord.long.Lts as lts
+
+-- src/super_weird_word.rt:168:41
+mul-result : tie.Need-mul-result
+mul-result c = search needs
+
+-- src/super_weird_word.rt:168:73
+mul-result-2 : tie.Need-mul-result-2
+mul-result-2 c = search needs
+
+-- src/super_weird_word.rt:162:5
+returns : tie.Need-returns
+unfolding long camel
+returns c = cc
+
+pub long-spec : {M : Type 1} → statement M
+long-spec = tie.close (tie.spec mul-result mul-result-2 returns)

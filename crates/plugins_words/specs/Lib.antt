@@ -1,0 +1,2 @@
+pub mod SuperWeirdWord
+pub mod ArchaicUpperLower
