@@ -1,12 +1,15 @@
 -- Archaic case (01): "as the source, with its first branch only if the running count is above 0; a leading space is thus counted as a
 -- letter seen." Branch by branch from the Rust's ArchaicUpperLowerPlugin. `last_alpha_seen` is its flags, 0 for none: with none the case
 -- does not change, and `buf`, which the source then leaves, is false in every state that feeding reaches.
+-- The laws stand in ArchaicUpperLowerLaws.
 -- Assumes nothing.
 use Prim.Native.Nat.{ℕ, _+_, _<_, _^_}
 use mathlib.Core.Bool.{Bool, false, true, cond, not, _&&_, _||_}
 use lib.Dec.{leb, ltb}
 use Rattle.bits.specs.Flags.{has, ASCII, ASCII-DIGIT, ALPHABETIC, CASE-VARIABLE, LOWERCASE, UPPERCASE}
 use Rattle.classes.specs.declared.Class.{Class}
+use Rattle.ratio.specs.declared.Fraction.{Fraction}
+use Rattle.ratio.specs.Fraction.{kept}
 use Rattle.plugins_words.specs.declared.archaic_upper_lower.ArchaicUpperLower.{ArchaicUpperLower}
 
 -- "character_count_since_last_sep <= 64"
@@ -14,7 +17,7 @@ abbrev pub LONGEST-RUN : ℕ
 LONGEST-RUN = 64
 
 -- nothing was fed; `current_ascii_only` starts true
-unfoldable pub start : ArchaicUpperLower
+abbrev pub start : ArchaicUpperLower
 start = record { characters = 0; since = 0; run = 0; total = 0; last = 0; ascii = true; buf = false }
 
 -- the first branch's test: no letter that has case, and "the running count is above 0"
@@ -57,6 +60,10 @@ letter s f =
 
 unfoldable pub feed : ArchaicUpperLower → Class → ArchaicUpperLower
 feed s c = cond (separates s (c .flags)) (separator s (c .flags)) (letter s (c .flags))
+
+-- the runs counted over all characters
+unfoldable pub fraction : ArchaicUpperLower → Fraction
+fraction s = kept true (record { num = s .total; den = s .characters })
 
 -- there is room for one character more in each count
 pub record Room (s : ArchaicUpperLower) : Type 0 where

@@ -1,6 +1,7 @@
 -- Weird words (01): "only ASCII letters and counted symbols enter a word. 0 if at most 10 words and no foreign long one. Accents over
 -- 17/50, from 4 characters in the word; camel case above 0 and up to 3/10, from 24." The Rust's SuperWeirdWordPlugin; its `Vec` is "counts
--- and the last flags": the length, the capitals among all its characters, the accents among its letters, the flags of its last character.
+-- and the last flags": the length, the capitals among all its characters, the accents among its letters, the flags of its last character. The laws
+-- stand in SuperWeirdWordLaws.
 -- Assumes nothing.
 use Prim.Native.Nat.{ℕ, _+_, _*_, _<_, _^_}
 use mathlib.Core.Bool.{Bool, false, true, cond, not, _&&_, _||_}
@@ -8,7 +9,13 @@ use lib.Dec.{leb, ltb, eqb}
 use Rattle.bits.specs.Flags.{has, WHITESPACE, SYMBOL, WEIRD-SAFE, PUNCTUATION, SEPARATOR, ASCII-ALPHABETIC, ASCII-DIGIT, LATIN, ACCENTUATED, CJK, HANGUL, KATAKANA, HIRAGANA, THAI, UPPERCASE}
 use Rattle.bits.specs.Numbers.{bump}
 use Rattle.classes.specs.declared.Class.{Class}
+use Rattle.ratio.specs.declared.Fraction.{Fraction}
+use Rattle.ratio.specs.Fraction.{kept}
 use Rattle.plugins_words.specs.declared.super_weird_word.SuperWeirdWord.{SuperWeirdWord}
+
+-- "0 if at most 10 words"
+abbrev pub FEW-WORDS : ℕ
+FEW-WORDS = 10
 
 -- "from 4 characters in the word"
 abbrev pub SHORT-WORD : ℕ
@@ -19,7 +26,7 @@ abbrev pub LONG-WORD : ℕ
 LONG-WORD = 24
 
 -- nothing was fed
-unfoldable pub start : SuperWeirdWord
+abbrev pub start : SuperWeirdWord
 start =
     record {
       characters = 0;
@@ -125,6 +132,10 @@ unfoldable pub feed : SuperWeirdWord → Class → SuperWeirdWord
 feed s c =
     cond (has (c .flags) ASCII-ALPHABETIC) (letter s (c .flags))
     (cond (eqb (s .length) 0) s (inside s (c .flags)))
+
+-- the characters of bad words over those of all words; "0 if at most 10 words and no foreign long one"
+unfoldable pub fraction : SuperWeirdWord → Fraction
+fraction s = kept (not (leb (s .words) FEW-WORDS && eqb (s .foreign) 0)) (record { num = s .spoilt; den = s .characters })
 
 -- there is room for one character more in each count
 pub record Room (s : SuperWeirdWord) : Type 0 where

@@ -11,6 +11,8 @@ use bits::flags::UPPERCASE;
 use bits::is_set;
 use bits::pick;
 use classes::Class;
+use ratio::Fraction;
+use ratio::kept;
 
 // a run is counted where at most this many characters were seen since the last separator
 const LONGEST_RUN: u32 = 64;
@@ -112,5 +114,18 @@ impl ArchaicUpperLower {
             return self.separator(f);
         }
         self.letter(f)
+    }
+
+    // The runs counted over all characters.
+    pub fn fraction(self) -> Fraction
+        ensures { λ r. ⌜ r ≡ archaic.fraction self ⌝ }
+    {
+        kept(
+            true,
+            Fraction {
+                num: self.total,
+                den: self.characters,
+            },
+        )
     }
 }

@@ -21,6 +21,11 @@ use bits::is_set;
 use bits::one;
 use bits::pick;
 use classes::Class;
+use ratio::Fraction;
+use ratio::kept;
+
+// with at most this many words, and no foreign long one, the answer is 0
+const FEW_WORDS: u32 = 10;
 
 // accents and the last letter are looked at from this length on
 const SHORT_WORD: u32 = 4;
@@ -30,10 +35,12 @@ const LONG_WORD: u32 = 24;
 
 // a word is bad with accents over 17/50
 const ACCENTS_PART: u32 = 17;
+
 const ACCENTS_WHOLE: u32 = 50;
 
 // camel case has capitals up to 3/10
 const CAMEL_PART: u32 = 3;
+
 const CAMEL_WHOLE: u32 = 10;
 
 // The Rust's SuperWeirdWordPlugin. Of its `buffer` it reads the length, the last character's flags and how many are UPPERCASE; its
@@ -216,5 +223,19 @@ impl SuperWeirdWord {
             return self;
         }
         self.inside(f)
+    }
+
+    // The characters of bad words over those of all words.
+    pub fn fraction(self) -> Fraction
+        ensures { λ r. ⌜ r ≡ weird.fraction self ⌝ }
+    {
+        let few = (self.words <= FEW_WORDS) & (self.foreign == 0);
+        kept(
+            !few,
+            Fraction {
+                num: self.spoilt,
+                den: self.characters,
+            },
+        )
     }
 }

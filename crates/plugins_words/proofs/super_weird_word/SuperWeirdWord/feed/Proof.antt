@@ -1,38 +1,28 @@
+-- Each return is the definition's case, by the tests that led there. Assumes nothing.
 use Rattle.plugins_words.specs.SuperWeirdWord.{feed}
 use mathlib.Core.Path.{sym, _∙_}
 use borrow.Author.Tests.{eq-eqb, ne-eqb}
 use borrow.Author.Needs.{needs}
 use Rattle.plugins_words.proofs.super_weird_word.SuperWeirdWord.feed.Statement.{statement}
 use Rattle.plugins_words.proofs.super_weird_word.SuperWeirdWord.feed.Tie as tie
-use Rattle.plugins_words.proofs.super_weird_word.SuperWeirdWord.feed.Reads as reads
-use Rattle.plugins_words.proofs.super_weird_word.SuperWeirdWord.feed.Lts as lts
-use Rattle.bits.proofs.is_set.Reads as is-set-reads
-use Rattle.plugins_words.proofs.super_weird_word.SuperWeirdWord.inside.Reads as inside-reads
-use Rattle.plugins_words.proofs.super_weird_word.SuperWeirdWord.letter.Reads as letter-reads
 
--- src/super_weird_word.rt:212:12
 is-set-requires : tie.Need-is-set-requires
 is-set-requires c κs = search needs
 
--- src/super_weird_word.rt:213:13
 letter-requires : tie.Need-letter-requires
 letter-requires c κs = search needs
 
--- src/super_weird_word.rt:213:13
 returns : tie.Need-returns
 unfolding feed
 returns c = simp (sym (c .before .before .is-set .ensures) ∙ c .before .if1 .taken) (c .letter .ensures)
 
--- src/super_weird_word.rt:216:13
 returns-2 : tie.Need-returns-2
 unfolding feed
 returns-2 c = simp (sym (c .before .before .before .is-set .ensures) ∙ c .before .before .if1 .left, eq-eqb _ _ (c .if2 .taken))
 
--- src/super_weird_word.rt:218:9
 inside-requires : tie.Need-inside-requires
 inside-requires c κs = search needs
 
--- src/super_weird_word.rt:207:5
 returns-3 : tie.Need-returns-3
 unfolding feed
 returns-3 c = simp (sym (c .before .before .before .before .is-set .ensures) ∙ c .before .before .before .if1 .left, ne-eqb _ _ (c .before .if2 .left)) (c .inside .ensures)

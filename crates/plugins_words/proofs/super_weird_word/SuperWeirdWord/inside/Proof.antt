@@ -1,3 +1,4 @@
+-- Each return is the definition's case, by the tests that led there. Assumes nothing.
 use Rattle.plugins_words.specs.SuperWeirdWord.{inside}
 use mathlib.Core.Path.{sym, _∙_}
 use borrow.Author.Needs.{needs}
@@ -5,40 +6,27 @@ use Rattle.plugins_words.proofs.super_weird_word.SuperWeirdWord.inside.
   statement,
 }
 use Rattle.plugins_words.proofs.super_weird_word.SuperWeirdWord.inside.Tie as tie
-use Rattle.plugins_words.proofs.super_weird_word.SuperWeirdWord.inside.Reads as reads
-use Rattle.plugins_words.proofs.super_weird_word.SuperWeirdWord.inside.Lts as lts
-use Rattle.plugins_words.proofs.super_weird_word.SuperWeirdWord.close.Reads as close-reads
-use Rattle.plugins_words.proofs.super_weird_word.SuperWeirdWord.symbol.Reads as symbol-reads
-use Rattle.plugins_words.proofs.super_weird_word.closes.Reads as closes-reads
-use Rattle.plugins_words.proofs.super_weird_word.counted.Reads as counted-reads
 
--- src/super_weird_word.rt:198:12
 closes-requires : tie.Need-closes-requires
 closes-requires c κs = search needs
 
--- src/super_weird_word.rt:199:13
 close-requires : tie.Need-close-requires
 close-requires c κs = search needs
 
--- src/super_weird_word.rt:199:13
 returns : tie.Need-returns
 unfolding inside
 returns c = simp (sym (c .before .before .closes .ensures) ∙ c .before .if1 .taken) (c .close .ensures)
 
--- src/super_weird_word.rt:201:12
 counted-requires : tie.Need-counted-requires
 counted-requires c κs = search needs
 
--- src/super_weird_word.rt:202:13
 symbol-requires : tie.Need-symbol-requires
 symbol-requires c κs = search needs
 
--- src/super_weird_word.rt:202:13
 returns-2 : tie.Need-returns-2
 unfolding inside
 returns-2 c = simp (sym (c .before .before .before .before .closes .ensures) ∙ c .before .before .before .if1 .left, sym (c .before .before .counted .ensures) ∙ c .before .if2 .taken) (c .symbol .ensures)
 
--- src/super_weird_word.rt:194:5
 returns-3 : tie.Need-returns-3
 unfolding inside
 returns-3 c = simp (sym (c .before .before .before .closes .ensures) ∙ c .before .before .if1 .left, sym (c .before .counted .ensures) ∙ c .if2 .left)

@@ -1,19 +1,15 @@
+-- The two products fit, since the counts have room; camel case is written out. Assumes nothing.
 use Rattle.plugins_words.specs.SuperWeirdWord.{long, camel}
 use borrow.Author.Needs.{needs}
 use Rattle.plugins_words.proofs.super_weird_word.SuperWeirdWord.long.Statement.{statement}
 use Rattle.plugins_words.proofs.super_weird_word.SuperWeirdWord.long.Tie as tie
-use Rattle.plugins_words.proofs.super_weird_word.SuperWeirdWord.long.Reads as reads
-use Rattle.plugins_words.proofs.super_weird_word.SuperWeirdWord.long.Lts as lts
 
--- src/super_weird_word.rt:168:41
 mul-result : tie.Need-mul-result
 mul-result c = search needs
 
--- src/super_weird_word.rt:168:73
 mul-result-2 : tie.Need-mul-result-2
 mul-result-2 c = search needs
 
--- src/super_weird_word.rt:162:5
 returns : tie.Need-returns
 unfolding long camel
 returns c = cc
