@@ -146,7 +146,7 @@ impl SuperWeirdWord {
             accents: self.accents,
             uppercase: self.uppercase + one(is_set(f, UPPERCASE)),
             length: self.length + 1,
-            last: f,
+            last: f, // also a symbol's
         }
     }
 
