@@ -3,13 +3,13 @@
 -- does not change, and `buf`, which the source then leaves, is false in every state that feeding reaches.
 -- The laws stand in ArchaicUpperLowerLaws.
 -- Assumes nothing.
-use Prim.Native.Nat.{ℕ, _+_, _<_, _^_}
+use Prim.Native.Nat.{ℕ, _+_, _≤_}
 use mathlib.Core.Bool.{Bool, false, true, cond, not, _&&_, _||_}
 use lib.Dec.{leb, ltb}
 use Rattle.bits.specs.Flags.{has, ASCII, ASCII-DIGIT, ALPHABETIC, CASE-VARIABLE, LOWERCASE, UPPERCASE}
 use Rattle.classes.specs.declared.Class.{Class}
 use Rattle.ratio.specs.declared.Fraction.{Fraction}
-use Rattle.ratio.specs.Fraction.{kept}
+use Rattle.ratio.specs.Fraction.{MOST-NUM, kept}
 use Rattle.plugins_words.specs.declared.archaic_upper_lower.ArchaicUpperLower.{ArchaicUpperLower}
 
 -- "character_count_since_last_sep <= 64"
@@ -62,12 +62,15 @@ unfoldable pub feed : ArchaicUpperLower → Class → ArchaicUpperLower
 feed s c = cond (separates s (c .flags)) (separator s (c .flags)) (letter s (c .flags))
 
 -- the runs counted over all characters
-unfoldable pub fraction : ArchaicUpperLower → Fraction
-fraction s = kept true (record { num = s .total; den = s .characters })
+abbrev pub share : ArchaicUpperLower → Fraction
+share s = record { num = s .total; den = s .characters }
 
--- there is room for one character more in each count
+unfoldable pub fraction : ArchaicUpperLower → Fraction
+fraction s = kept true (share s)
+
+-- room for one character more in each count
 pub record Room (s : ArchaicUpperLower) : Type 0 where
-  pub characters : s .characters < 2 ^ 24
-  pub since : s .since < 2 ^ 24
-  pub run : s .run < 2 ^ 24
-  pub total : s .total < 2 ^ 24
+  pub characters : s .characters ≤ MOST-NUM
+  pub since : s .since ≤ MOST-NUM
+  pub run : s .run ≤ MOST-NUM
+  pub total : s .total ≤ MOST-NUM

@@ -2,17 +2,18 @@
 -- `buf` and the one that cleared it: a run, with `buf` as 1, is at most the characters since, and the runs counted at most those before.
 -- So a step has room, the fraction is proper, and its ratio is at most 1.
 -- Assumes nothing.
-use Prim.Native.Nat.{ℕ, _+_, _*_, _≤_, _^_}
+use Prim.Native.Nat.{ℕ, _+_, _*_, _≤_}
 use mathlib.Core.Path.{_≡_, refl}
 use mathlib.Core.Bool.{Bool, true, false, cond, not, _&&_}
 use native.Mathlib.Omega.{arith}
+use Rattle.bits.specs.Limits.{LARGEST}
 use Rattle.bits.specs.Numbers.{bump, bump-small}
 use Rattle.bits.specs.Tests.{cond-both}
 use Rattle.classes.specs.declared.Class.{Class}
-use Rattle.ratio.specs.Fraction.{Proper}
+use Rattle.ratio.specs.Fraction.{Small, Proper}
 use Rattle.ratio.specs.FractionLaws.{kept-proper, kept-bound}
 use Rattle.plugins_words.specs.declared.archaic_upper_lower.ArchaicUpperLower.{ArchaicUpperLower}
-use Rattle.plugins_words.specs.ArchaicUpperLower.{start, separates, counted, separator, changes, letter, feed, fraction, Room}
+use Rattle.plugins_words.specs.ArchaicUpperLower.{start, separates, counted, separator, changes, letter, feed, share, fraction, Room}
 
 -- what holds after k characters
 pub record Within (k : ℕ) (s : ArchaicUpperLower) : Type 0 where
@@ -48,15 +49,17 @@ module _ (k : ℕ) (s : ArchaicUpperLower) (w : Within k s) where
   feed-within c =
       cond-both (Within (k + 1)) (separates s (c .flags)) _ _ (separator-within (c .flags)) (letter-within (c .flags))
 
-  pub within-room : k ≤ 2 ^ 17 → Room s
+  pub within-room : k ≤ LARGEST → Room s
   within-room h = record { characters = omega arith; since = omega arith; run = omega arith; total = omega arith }
 
-  pub fraction-proper : k ≤ 2 ^ 17 → Proper (fraction s)
+  pub within-small : k ≤ LARGEST → Small (share s)
+  within-small h = record { num = omega arith; den = omega arith }
+
+  pub fraction-proper : k ≤ LARGEST → Proper (fraction s)
   unfolding fraction
-  fraction-proper h =
-      kept-proper true (record { num = s .total; den = s .characters }) (record { num = omega arith; den = omega arith })
+  fraction-proper h = kept-proper true (share s) (within-small h)
 
   -- 01: ratios of archaic case are at most 1
   pub fraction-bound : fraction s .num ≤ 1 * fraction s .den
   unfolding fraction
-  fraction-bound = kept-bound 1 true (record { num = s .total; den = s .characters }) (omega arith)
+  fraction-bound = kept-bound 1 true (share s) (omega arith)

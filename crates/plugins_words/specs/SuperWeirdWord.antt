@@ -3,14 +3,14 @@
 -- and the last flags": the length, the capitals among all its characters, the accents among its letters, the flags of its last character. The laws
 -- stand in SuperWeirdWordLaws.
 -- Assumes nothing.
-use Prim.Native.Nat.{ℕ, _+_, _*_, _<_, _^_}
+use Prim.Native.Nat.{ℕ, _+_, _*_, _≤_}
 use mathlib.Core.Bool.{Bool, false, true, cond, not, _&&_, _||_}
 use lib.Dec.{leb, ltb, eqb}
 use Rattle.bits.specs.Flags.{has, WHITESPACE, SYMBOL, WEIRD-SAFE, PUNCTUATION, SEPARATOR, ASCII-ALPHABETIC, ASCII-DIGIT, LATIN, ACCENTUATED, CJK, HANGUL, KATAKANA, HIRAGANA, THAI, UPPERCASE}
 use Rattle.bits.specs.Numbers.{bump}
 use Rattle.classes.specs.declared.Class.{Class}
 use Rattle.ratio.specs.declared.Fraction.{Fraction}
-use Rattle.ratio.specs.Fraction.{kept}
+use Rattle.ratio.specs.Fraction.{MOST-NUM, kept}
 use Rattle.plugins_words.specs.declared.super_weird_word.SuperWeirdWord.{SuperWeirdWord}
 
 -- "0 if at most 10 words"
@@ -133,16 +133,20 @@ feed s c =
     cond (has (c .flags) ASCII-ALPHABETIC) (letter s (c .flags))
     (cond (eqb (s .length) 0) s (inside s (c .flags)))
 
--- the characters of bad words over those of all words; "0 if at most 10 words and no foreign long one"
-unfoldable pub fraction : SuperWeirdWord → Fraction
-fraction s = kept (not (leb (s .words) FEW-WORDS && eqb (s .foreign) 0)) (record { num = s .spoilt; den = s .characters })
+-- the characters of bad words over those of all words
+abbrev pub share : SuperWeirdWord → Fraction
+share s = record { num = s .spoilt; den = s .characters }
 
--- there is room for one character more in each count
+-- "0 if at most 10 words and no foreign long one"
+unfoldable pub fraction : SuperWeirdWord → Fraction
+fraction s = kept (not (leb (s .words) FEW-WORDS && eqb (s .foreign) 0)) (share s)
+
+-- room for one character more in each count
 pub record Room (s : SuperWeirdWord) : Type 0 where
-  pub characters : s .characters < 2 ^ 24
-  pub words : s .words < 2 ^ 24
-  pub foreign : s .foreign < 2 ^ 24
-  pub spoilt : s .spoilt < 2 ^ 24
-  pub accents : s .accents < 2 ^ 24
-  pub uppercase : s .uppercase < 2 ^ 24
-  pub length : s .length < 2 ^ 24
+  pub characters : s .characters ≤ MOST-NUM
+  pub words : s .words ≤ MOST-NUM
+  pub foreign : s .foreign ≤ MOST-NUM
+  pub spoilt : s .spoilt ≤ MOST-NUM
+  pub accents : s .accents ≤ MOST-NUM
+  pub uppercase : s .uppercase ≤ MOST-NUM
+  pub length : s .length ≤ MOST-NUM

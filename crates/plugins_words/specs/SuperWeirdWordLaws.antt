@@ -1,18 +1,19 @@
 -- How large the counts of weird words can be: after k characters at most k stand in words, and those of bad words are among them. So a
 -- step has room, the fraction is proper, and its ratio is at most 1.
 -- Assumes nothing.
-use Prim.Native.Nat.{ℕ, _+_, _*_, _≤_, _^_}
+use Prim.Native.Nat.{ℕ, _+_, _*_, _≤_}
 use mathlib.Core.Bool.{cond, not, _&&_, _||_}
 use native.Mathlib.Omega.{arith}
 use lib.Dec.{leb, eqb}
 use Rattle.bits.specs.Flags.{has, ASCII-ALPHABETIC, ACCENTUATED, UPPERCASE}
+use Rattle.bits.specs.Limits.{LARGEST}
 use Rattle.bits.specs.Numbers.{bump-small}
 use Rattle.bits.specs.Tests.{cond-both}
 use Rattle.classes.specs.declared.Class.{Class}
-use Rattle.ratio.specs.Fraction.{Proper}
+use Rattle.ratio.specs.Fraction.{Small, Proper}
 use Rattle.ratio.specs.FractionLaws.{kept-proper, kept-bound}
 use Rattle.plugins_words.specs.declared.super_weird_word.SuperWeirdWord.{SuperWeirdWord}
-use Rattle.plugins_words.specs.SuperWeirdWord.{FEW-WORDS, start, closes, counted, letter, symbol, accented, capital, long, close, inside, feed, fraction, Room}
+use Rattle.plugins_words.specs.SuperWeirdWord.{FEW-WORDS, start, closes, counted, letter, symbol, accented, capital, long, close, inside, feed, share, fraction, Room}
 
 -- what holds after k characters
 pub record Within (k : ℕ) (s : SuperWeirdWord) : Type 0 where
@@ -102,7 +103,7 @@ module _ (k : ℕ) (s : SuperWeirdWord) (w : Within k s) where
       cond-both (Within (k + 1)) (has (c .flags) ASCII-ALPHABETIC) _ _ (letter-within (c .flags))
       (cond-both (Within (k + 1)) (eqb (s .length) 0) _ _ passed-within (inside-within (c .flags)))
 
-  pub within-room : k ≤ 2 ^ 17 → Room s
+  pub within-room : k ≤ LARGEST → Room s
   within-room h =
       record {
         characters = omega arith;
@@ -114,14 +115,14 @@ module _ (k : ℕ) (s : SuperWeirdWord) (w : Within k s) where
         length = omega arith;
       }
 
-  pub fraction-proper : k ≤ 2 ^ 17 → Proper (fraction s)
+  pub within-small : k ≤ LARGEST → Small (share s)
+  within-small h = record { num = omega arith; den = omega arith }
+
+  pub fraction-proper : k ≤ LARGEST → Proper (fraction s)
   unfolding fraction
-  fraction-proper h =
-      kept-proper (not (leb (s .words) FEW-WORDS && eqb (s .foreign) 0)) (record { num = s .spoilt; den = s .characters })
-      (record { num = omega arith; den = omega arith })
+  fraction-proper h = kept-proper (not (leb (s .words) FEW-WORDS && eqb (s .foreign) 0)) (share s) (within-small h)
 
   -- 01: ratios of weird words are at most 1
   pub fraction-bound : fraction s .num ≤ 1 * fraction s .den
   unfolding fraction
-  fraction-bound =
-      kept-bound 1 (not (leb (s .words) FEW-WORDS && eqb (s .foreign) 0)) (record { num = s .spoilt; den = s .characters }) (omega arith)
+  fraction-bound = kept-bound 1 (not (leb (s .words) FEW-WORDS && eqb (s .foreign) 0)) (share s) (omega arith)
