@@ -77,3 +77,7 @@ WORK-PER-POINT = 4
 -- U+000A, which is fed after every text
 abbrev pub NEWLINE : ℕ
 NEWLINE = 10
+
+-- the most characters for which the laws of the detectors' counts are stated, and the largest count: twice LONGEST-TEXT
+abbrev pub LARGEST : ℕ
+LARGEST = 131072

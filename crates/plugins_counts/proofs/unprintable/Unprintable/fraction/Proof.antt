@@ -1,0 +1,18 @@
+-- The share of the counts, kept always. Assumes nothing.
+use Rattle.plugins_counts.specs.Unprintable.{fraction}
+use borrow.Author.Needs.{needs}
+use Rattle.plugins_counts.proofs.unprintable.Unprintable.fraction.Statement.{statement}
+use Rattle.plugins_counts.proofs.unprintable.Unprintable.fraction.Tie as tie
+
+mul-t3 : tie.Need-mul-t3
+mul-t3 c = search needs
+
+kept-requires : tie.Need-kept-requires
+kept-requires c κs = search needs
+
+returns : tie.Need-returns
+unfolding fraction
+returns c = cc
+
+pub fraction-spec : {M : Type 1} → statement M
+fraction-spec = tie.close (tie.spec mul-t3 kept-requires returns)

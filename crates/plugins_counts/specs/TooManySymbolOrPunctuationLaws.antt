@@ -1,0 +1,59 @@
+-- How large the counts of symbols can be: a character that counts is punctuation or a symbol and not both, so the two together are at most
+-- the printable characters. So a step has room, the fraction is proper, and its ratio is at most 2.
+-- Assumes nothing.
+use Prim.Native.Nat.{ℕ, _+_, _*_, _≤_}
+use mathlib.Core.Path.{_≡_}
+use mathlib.Core.Bool.{Bool, true, false, not, _&&_}
+use native.Mathlib.Omega.{arith}
+use Rattle.bits.specs.Flags.{has, UNPRINTABLE, PUNCTUATION}
+use Rattle.bits.specs.Limits.{LARGEST}
+use Rattle.bits.specs.Numbers.{bump, bump-small}
+use Rattle.bits.specs.Tests.{by-bool, cond-both}
+use Rattle.classes.specs.declared.Class.{Class}
+use Rattle.ratio.specs.Fraction.{Small, Proper, atLeast}
+use Rattle.ratio.specs.FractionLaws.{kept-proper, kept-bound}
+use Rattle.plugins_counts.specs.declared.too_many_symbol_or_punctuation.TooManySymbolOrPunctuation.{TooManySymbolOrPunctuation}
+use Rattle.plugins_counts.specs.TooManySymbolOrPunctuation.{start, counts, countedSymbol, printable, feed, share, fraction, Room}
+
+-- what holds after k characters
+pub record Within (k : ℕ) (s : TooManySymbolOrPunctuation) : Type 0 where
+  pub characters : s .characters ≤ k
+  pub counted : s .punctuation + s .symbols ≤ s .characters
+
+pub start-within : Within 0 start
+start-within = record { characters = omega arith; counted = omega arith }
+
+-- punctuation or a symbol, and not both
+one-of : (counted : Bool) (flags : ℕ) → bump (counted && has flags PUNCTUATION) + bump (counted && countedSymbol flags) ≤ 1
+unfolding countedSymbol
+one-of false flags = omega arith
+one-of true flags =
+    by-bool (has flags PUNCTUATION) (λ e. rw e (omega arith)) (λ e. let b = rw e at (bump-small (countedSymbol flags)) in rw e (omega arith))
+
+module _ (k : ℕ) (s : TooManySymbolOrPunctuation) (w : Within k s) where
+  printable-within : (c : Class) → Within (k + 1) (printable s c)
+  unfolding printable
+  printable-within c =
+      let o = one-of (counts s c) (c .flags) in
+      record { characters = omega arith; counted = omega arith }
+
+  pub feed-within : (c : Class) → Within (k + 1) (feed s c)
+  unfolding feed
+  feed-within c =
+      cond-both (Within (k + 1)) (has (c .flags) UNPRINTABLE) _ _ (record { characters = omega arith; counted = w .counted })
+      (printable-within c)
+
+  pub within-room : k ≤ LARGEST → Room s
+  within-room h = record { characters = omega arith; punctuation = omega arith; symbols = omega arith }
+
+  pub within-small : k ≤ LARGEST → Small (share s)
+  within-small h = record { num = omega arith; den = omega arith }
+
+  pub fraction-proper : k ≤ LARGEST → Proper (fraction s)
+  unfolding fraction
+  fraction-proper h = kept-proper (atLeast 3 10 (share s)) (share s) (within-small h)
+
+  -- 01: ratios of symbols are at most 2
+  pub fraction-bound : fraction s .num ≤ 2 * fraction s .den
+  unfolding fraction
+  fraction-bound = kept-bound 2 (atLeast 3 10 (share s)) (share s) (omega arith)

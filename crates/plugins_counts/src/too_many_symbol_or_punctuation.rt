@@ -1,0 +1,90 @@
+// Symbols: how many of the printable characters are punctuation or symbols, a symbol being worth two.
+ghost use mathlib.Core.Path.{_≡_};
+ghost use Rattle.plugins_counts.specs.TooManySymbolOrPunctuation.{start, feed, counts, countedSymbol, share, fraction, Room};
+ghost use Rattle.ratio.specs.Fraction.{Small};
+use bits::flags::COMMON_SAFE;
+use bits::flags::EMOTICON;
+use bits::flags::NUMERIC;
+use bits::flags::PUNCTUATION;
+use bits::flags::SYMBOL;
+use bits::flags::UNPRINTABLE;
+use bits::is_set;
+use bits::one;
+use classes::Class;
+use ratio::Fraction;
+use ratio::at_least;
+use ratio::kept;
+
+// The Rust's TooManySymbolOrPunctuationPlugin.
+pub struct TooManySymbolOrPunctuation {
+    // character_count
+    pub characters: u32,
+    // punctuation_count
+    pub punctuation: u32,
+    // half of symbol_count, which goes up by 2 for a symbol
+    pub symbols: u32,
+    // last_printable_char: whether there is one
+    pub seen: bool,
+    // last_printable_char: its character
+    pub last: u32,
+}
+
+// A symbol that counts: no punctuation, no number, no emoticon.
+fn counted_symbol(flags: u32) -> bool
+    ensures { λ r. ⌜ r ≡ countedSymbol flags ⌝ }
+{
+    !is_set(flags, PUNCTUATION)
+        & !is_set(flags, NUMERIC)
+        & is_set(flags, SYMBOL)
+        & !is_set(flags, EMOTICON)
+}
+
+impl TooManySymbolOrPunctuation {
+    pub fn start() -> TooManySymbolOrPunctuation
+        ensures { λ r. ⌜ r ≡ start ⌝ }
+    {
+        TooManySymbolOrPunctuation {
+            characters: 0,
+            punctuation: 0,
+            symbols: 0,
+            seen: false,
+            last: 0,
+        }
+    }
+
+    // Whether the character may count: it is not the last one again, and not a common one.
+    fn counts(self, c: Class) -> bool
+        ensures { λ r. ⌜ r ≡ counts self c ⌝ }
+    {
+        !(self.seen & (c.point == self.last)) & !is_set(c.flags, COMMON_SAFE)
+    }
+
+    pub fn feed(self, c: Class) -> TooManySymbolOrPunctuation
+        requires { ⌜ Room self ⌝ }
+        ensures { λ r. ⌜ r ≡ feed self c ⌝ }
+    {
+        if is_set(c.flags, UNPRINTABLE) {
+            return self;
+        }
+        let counts = self.counts(c);
+        let point = c.point;
+        TooManySymbolOrPunctuation {
+            characters: self.characters + 1,
+            punctuation: self.punctuation + one(counts & is_set(c.flags, PUNCTUATION)),
+            symbols: self.symbols + one(counts & counted_symbol(c.flags)),
+            seen: true,
+            last: point,
+        }
+    }
+
+    pub fn fraction(self) -> Fraction
+        requires { ⌜ Small (share self) ⌝ }
+        ensures { λ r. ⌜ r ≡ fraction self ⌝ }
+    {
+        let share = Fraction {
+            num: self.punctuation + 2 * self.symbols,
+            den: self.characters,
+        };
+        kept(at_least(share, 3, 10), share)
+    }
+}

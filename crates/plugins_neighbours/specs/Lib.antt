@@ -1,0 +1,4 @@
+pub mod SuspiciousRange
+pub mod SuspiciousRangeLaws
+pub mod SuspiciousDuplicateAccent
+pub mod SuspiciousDuplicateAccentLaws

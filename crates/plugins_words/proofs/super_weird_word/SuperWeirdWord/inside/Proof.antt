@@ -1,0 +1,44 @@
+-- Each return is the definition's case, by the tests that led there. Assumes nothing.
+use Rattle.plugins_words.specs.SuperWeirdWord.{inside}
+use mathlib.Core.Path.{sym, _∙_}
+use borrow.Author.Needs.{needs}
+use Rattle.plugins_words.proofs.super_weird_word.SuperWeirdWord.inside.Statement.{
+  statement,
+}
+use Rattle.plugins_words.proofs.super_weird_word.SuperWeirdWord.inside.Tie as tie
+
+closes-requires : tie.Need-closes-requires
+closes-requires c κs = search needs
+
+close-requires : tie.Need-close-requires
+close-requires c κs = search needs
+
+returns : tie.Need-returns
+unfolding inside
+returns c = simp (sym (c .before .before .closes .ensures) ∙ c .before .if1 .taken) (c .close .ensures)
+
+counted-requires : tie.Need-counted-requires
+counted-requires c κs = search needs
+
+symbol-requires : tie.Need-symbol-requires
+symbol-requires c κs = search needs
+
+returns-2 : tie.Need-returns-2
+unfolding inside
+returns-2 c = simp (sym (c .before .before .before .before .closes .ensures) ∙ c .before .before .before .if1 .left, sym (c .before .before .counted .ensures) ∙ c .before .if2 .taken) (c .symbol .ensures)
+
+returns-3 : tie.Need-returns-3
+unfolding inside
+returns-3 c = simp (sym (c .before .before .before .closes .ensures) ∙ c .before .before .if1 .left, sym (c .before .counted .ensures) ∙ c .if2 .left)
+
+pub inside-spec : {M : Type 1} → statement M
+inside-spec =
+    tie.close
+    (tie.spec
+    closes-requires
+    close-requires
+    returns
+    counted-requires
+    symbol-requires
+    returns-2
+    returns-3)

@@ -1,0 +1,4 @@
+pub mod SuperWeirdWord
+pub mod SuperWeirdWordLaws
+pub mod ArchaicUpperLower
+pub mod ArchaicUpperLowerLaws
