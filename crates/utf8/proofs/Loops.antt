@@ -1,0 +1,232 @@
+-- The reader's two loops: what holds when i bytes and n code points are passed. Assumes nothing.
+use Prim.Native.Nat.{ℕ, suc, _+_, _-_, _≤_, _<_}
+use mathlib.Core.Path.{_≡_, refl, sym, ap, subst, _∙_}
+use mathlib.Core.List.{List, [], _∷_, _++_, append-assoc, append-nil}
+use mathlib.Core.Bool.{true, cond}
+use native.Mathlib.Numerals.{add-one}
+use native.Mathlib.Omega.{arith}
+use lib.ListN.{length, getD, take, drop, set, length-set, length-append, length-take, length-drop, take-append-drop}
+use lib.Seq.{paste, paste-zero, paste-suc, take-suc-set, drop-set-lt, drop-drop, length-take-le, length-paste, take-paste, drop-paste, take-length}
+use Rattle.utf8.specs.declared.Measured.the-variants.{Points, Fault}
+use Rattle.utf8.specs.WellFormed.{Step, noRow, pointOfTwo, pointOfThree, pointOfFour, byteAt, stepAt}
+use Rattle.utf8.specs.CompleteLaws.{got}
+use Rattle.utf8.specs.Text.{Reading, ended, after, textOf, faultAt, wellFormed}
+use Rattle.utf8.specs.TextLaws.{from, past, from-start, from-end, from-step, step-fits, whole-is, is-whole, is-broken}
+use Rattle.utf8.specs.Ascii.{AsciiRun, run-first, run-text}
+use Rattle.utf8.specs.Answer.{measured, filled}
+use Rattle.utf8.proofs.Places.{at-one, some-two, some-three, some-four}
+
+-- a place where a code point stands is followed by the rest of the reading
+goes-on : (bytes : List ℕ) (i k p : ℕ) → stepAt bytes i ≡ got k p → 1 ≤ k → from bytes i ≡ after (p ∷ []) (from bytes (i + k))
+goes-on bytes i k p e h =
+    from-step bytes i (λ z. let y : k ≡ 0 = rw e at z in omega arith) ∙ rw e
+
+fits : (bytes : List ℕ) (i k p : ℕ) → stepAt bytes i ≡ got k p → 1 ≤ k → i + k ≤ length bytes
+fits bytes i k p e h = rw e at (step-fits bytes i (λ z. let y : k ≡ 0 = rw e at z in omega arith))
+
+run-length : (bytes : List ℕ) (i j : ℕ) → AsciiRun bytes i j → length (take (j - i) (drop i bytes)) ≡ j - i
+run-length bytes i j r = length-take-le (j - i) (drop i bytes) (omega (arith, length-drop i bytes, r .inside))
+
+-- the first loop, which counts
+pub record Passed (bytes : List ℕ) (i n : ℕ) : Type 0 where
+  pub here : i ≤ length bytes
+  pub few : n ≤ i
+  pub stops : from bytes i .stop ≡ faultAt bytes
+  pub counts : n + length (from bytes i .text) ≡ length (textOf bytes)
+
+-- one sequence of k bytes more
+pub record PassedOn (bytes : List ℕ) (i n k : ℕ) : Type 0 where
+  pub fits : i + k ≤ length bytes
+  pub next : Passed bytes (i + k) (n + 1)
+
+module _ (bytes : List ℕ) where
+  pub passed-start : Passed bytes 0 0
+  passed-start =
+      record {
+        here = omega arith;
+        few = omega arith;
+        stops = ap (λ (r : Reading). r .stop) (from-start bytes);
+        counts = omega (arith, ap (λ (r : Reading). length (r .text)) (from-start bytes));
+      }
+
+  module _ (i n : ℕ) (p : Passed bytes i n) where
+    -- the code points ps stand between i and j
+    passed-more : (ps : List ℕ) (j : ℕ) → from bytes i ≡ after ps (from bytes j) → j ≤ length bytes → i + length ps ≤ j
+        → Passed bytes j (n + length ps)
+    passed-more ps j e h k =
+        record {
+          here = h;
+          few = omega arith;
+          stops = sym (ap (λ (r : Reading). r .stop) e) ∙ p .stops;
+          counts =
+              omega
+              (arith, p .counts, ap (λ (r : Reading). length (r .text)) e, length-append ps (from bytes j .text));
+        }
+
+    pub passed-on : (k q : ℕ) → stepAt bytes i ≡ got k q → 1 ≤ k → PassedOn bytes i n k
+    passed-on k q e h =
+        record {
+          fits = fits bytes i k q e h;
+          next = passed-more (q ∷ []) (i + k) (goes-on bytes i k q e h) (fits bytes i k q e h) (omega arith);
+        }
+
+    pub passed-ascii : (j : ℕ) → i < length bytes → byteAt bytes i < 0x80 → AsciiRun bytes (i + 1) j → Passed bytes j (n + (j - i))
+    passed-ascii j h k s =
+        let r = run-first bytes i j h k s in
+        let l = run-length bytes i j r in
+        rw l at (passed-more (take (j - i) (drop i bytes)) j (run-text bytes i j r) (r .inside) (omega (arith, l, r .here)))
+
+    pub passed-fault : i < length bytes → stepAt bytes i ≡ noRow → Fault i ≡ measured bytes
+    unfolding measured
+    passed-fault h e =
+        let s : i ≡ faultAt bytes = sym (ap (λ (r : Reading). r .stop) (from-end bytes i (ap (λ (s : Step). s .size) e))) ∙ p .stops in
+        rw (is-broken bytes (omega arith)) (ap Fault s)
+
+    pub passed-end : length bytes ≤ i → Points n ≡ measured bytes
+    unfolding measured
+    passed-end h =
+        let e = from-end bytes i (past bytes i h) in
+        let s : i ≡ faultAt bytes = sym (ap (λ (r : Reading). r .stop) e) ∙ p .stops in
+        let c : n ≡ length (textOf bytes) = omega (arith, p .counts, ap (λ (r : Reading). length (r .text)) e) in
+        rw (is-whole bytes (omega arith)) (ap Points c)
+
+-- k of the ASCII bytes stand in out from `at` on
+pub record Widened (ascii old out : List ℕ) (at k : ℕ) : Type 0 where
+  pub here : k ≤ length ascii
+  pub same : length out ≡ length old
+  pub copied : out ≡ paste old at ascii k
+
+module _ (ascii old : List ℕ) (at : ℕ) where
+  pub widened-start : Widened ascii old old at 0
+  widened-start = record { here = omega arith; same = refl; copied = paste-zero old at ascii }
+
+  module _ (out : List ℕ) (k : ℕ) (w : Widened ascii old out at k) where
+    pub widened-more : (v : ℕ) → at + length ascii ≤ length old → k < length ascii → v ≡ getD ascii k 0
+        → Widened ascii old (set out (at + k) v) at (k + 1)
+    widened-more v r h e =
+        record {
+          here = omega arith;
+          same = length-set out (at + k) v ∙ w .same;
+          copied =
+              ap (λ (l : List ℕ). set l (at + k) v) (w .copied)
+              ∙ ap (set (paste old at ascii k) (at + k)) e
+              ∙ paste-suc old at ascii k 0 (omega arith) h
+              ∙ ap (paste old at ascii) (sym (add-one k));
+        }
+
+    pub widened-end : length ascii ≤ k → out ≡ paste old at ascii (length ascii)
+    widened-end h = let e : k ≡ length ascii = omega (arith, w .here) in w .copied ∙ ap (paste old at ascii) e
+
+-- the second loop, which writes
+pub record Filling (bytes old out : List ℕ) (i n : ℕ) : Type 0 where
+  pub here : i ≤ length bytes
+  pub stops : from bytes i .stop ≡ length bytes
+  pub same : length out ≡ length old
+  pub room : n + length (from bytes i .text) ≤ length old
+  pub front : take n out ++ from bytes i .text ≡ textOf bytes
+  pub back : drop n out ≡ drop n old
+
+-- one code point of k bytes more
+pub record Filled (bytes old out : List ℕ) (i n k p : ℕ) : Type 0 where
+  pub fits : i + k ≤ length bytes
+  pub room : n < length out
+  pub next : Filling bytes old (set out n p) (i + k) (n + 1)
+
+module _ (bytes old : List ℕ) where
+  pub filling-start : wellFormed bytes ≡ true → length (textOf bytes) ≤ length old → Filling bytes old old 0 0
+  filling-start w h =
+      record {
+        here = omega arith;
+        stops = ap (λ (r : Reading). r .stop) (from-start bytes) ∙ whole-is bytes w;
+        same = refl;
+        room = omega (arith, ap (λ (r : Reading). length (r .text)) (from-start bytes));
+        front = ap (λ (r : Reading). r .text) (from-start bytes);
+        back = refl;
+      }
+
+  module _ (out : List ℕ) (i n : ℕ) (f : Filling bytes old out i n) where
+    -- before the end something stands, and there is room for its code point
+    filling-some : i < length bytes → stepAt bytes i .size ≡ 0 → ⊥
+    filling-some h e =
+        let s : i ≡ length bytes = sym (ap (λ (r : Reading). r .stop) (from-end bytes i e)) ∙ f .stops in
+        omega arith
+
+    -- the code points ps stand between i and j, and new holds them after the first n
+    filling-more : (ps new : List ℕ) (j : ℕ) → from bytes i ≡ after ps (from bytes j) → j ≤ length bytes → length new ≡ length out
+        → take (n + length ps) new ≡ take n out ++ ps → drop (n + length ps) new ≡ drop (n + length ps) out
+        → Filling bytes old new j (n + length ps)
+    filling-more ps new j e h l t d =
+        record {
+          here = h;
+          stops = sym (ap (λ (r : Reading). r .stop) e) ∙ f .stops;
+          same = l ∙ f .same;
+          room = omega (arith, f .room, ap (λ (r : Reading). length (r .text)) e, length-append ps (from bytes j .text));
+          front =
+              ap (λ (x : List ℕ). x ++ from bytes j .text) t
+              ∙ append-assoc (take n out) ps (from bytes j .text)
+              ∙ ap (λ (x : List ℕ). take n out ++ x) (sym (ap (λ (r : Reading). r .text) e))
+              ∙ f .front;
+          back = d ∙ sym (drop-drop (length ps) n out) ∙ ap (drop (length ps)) (f .back) ∙ drop-drop (length ps) n old;
+        }
+
+    filling-room : (k p : ℕ) → stepAt bytes i ≡ got k p → 1 ≤ k → n < length out
+    filling-room k p e h =
+        omega (arith, f .same, f .room, ap (λ (r : Reading). length (r .text)) (goes-on bytes i k p e h))
+
+    filling-step : (k p : ℕ) → stepAt bytes i ≡ got k p → 1 ≤ k → Filled bytes old out i n k p
+    filling-step k p e h =
+        record {
+          fits = fits bytes i k p e h;
+          room = filling-room k p e h;
+          next =
+              filling-more (p ∷ []) (set out n p) (i + k) (goes-on bytes i k p e h) (fits bytes i k p e h) (length-set out n p)
+              (ap (λ (m : ℕ). take m (set out n p)) (add-one n) ∙ take-suc-set out n p (filling-room k p e h))
+              (drop-set-lt (n + 1) out n p (omega arith));
+        }
+
+    -- by the byte at i
+    module _ (h : i < length bytes) where
+      pub filling-one : byteAt bytes i < 0x80 → Filled bytes old out i n 1 (byteAt bytes i)
+      filling-one k = filling-step 1 _ (at-one bytes i h k) (omega arith)
+
+      pub filling-two : 0x80 ≤ byteAt bytes i → byteAt bytes i < 0xE0
+          → Filled bytes old out i n 2 (pointOfTwo (byteAt bytes i) (byteAt bytes (i + 1)))
+      filling-two k l = filling-step 2 _ (some-two bytes i h (filling-some h) k l) (omega arith)
+
+      pub filling-three : 0xE0 ≤ byteAt bytes i → byteAt bytes i < 0xF0
+          → Filled bytes old out i n 3 (pointOfThree (byteAt bytes i) (byteAt bytes (i + 1)) (byteAt bytes (i + 2)))
+      filling-three k l = filling-step 3 _ (some-three bytes i h (filling-some h) k l) (omega arith)
+
+      pub filling-four : 0xF0 ≤ byteAt bytes i
+          → Filled bytes old out i n 4
+          (pointOfFour (byteAt bytes i) (byteAt bytes (i + 1)) (byteAt bytes (i + 2)) (byteAt bytes (i + 3)))
+      filling-four k = filling-step 4 _ (some-four bytes i h (filling-some h) k) (omega arith)
+
+    -- a run of ASCII bytes
+    module _ (j : ℕ) (r : AsciiRun bytes i j) where
+      pub filling-run-room : n + length (take (j - i) (drop i bytes)) ≤ length out
+      filling-run-room =
+          omega
+          (arith, f .same, f .room, ap (λ (r : Reading). length (r .text)) (run-text bytes i j r), length-append (take (j - i) (drop i bytes)) (from bytes j .text))
+
+      pub filling-run :
+          Filling bytes old (paste out n (take (j - i) (drop i bytes)) (length (take (j - i) (drop i bytes)))) j (n + (j - i))
+      filling-run =
+          let s = take (j - i) (drop i bytes) in
+          let e : n + length (take (j - i) (drop i bytes)) ≡ n + (j - i) = ap (λ (k : ℕ). n + k) (run-length bytes i j r) in
+          subst (λ (m : ℕ). Filling bytes old (paste out n s (length s)) j m) e
+          (filling-more s (paste out n s (length s)) j (run-text bytes i j r) (r .inside)
+          (length-paste out n s (length s) filling-run-room (omega arith))
+          (take-paste out n s (length s) (omega (arith, filling-run-room)) (omega arith) ∙ ap (λ (x : List ℕ). take n out ++ x) (take-length s))
+          (drop-paste out n s (length s) (omega (arith, filling-run-room)) (omega arith)))
+
+    pub filling-end : length bytes ≤ i → out ≡ filled (textOf bytes) old
+    filling-end h =
+        let e = from-end bytes i (past bytes i h) in
+        let t : take n out ≡ textOf bytes =
+        sym (append-nil (take n out)) ∙ ap (λ (r : Reading). take n out ++ r .text) (sym e) ∙ f .front in
+        let l : n ≡ length (textOf bytes) = sym (length-take-le n out (omega (arith, f .same, f .room))) ∙ ap length t in
+        sym (take-append-drop n out)
+        ∙ ap (λ (a : List ℕ). a ++ drop n out) t
+        ∙ ap (λ (b : List ℕ). textOf bytes ++ b) (f .back)
+        ∙ ap (λ (k : ℕ). textOf bytes ++ drop k old) l

@@ -1,0 +1,177 @@
+-- The first n places hold the text up to i and the rest is as it was: each turn writes the next code point, or a run of ASCII, there. Assumes nothing.
+use Prim.Native.Nat.{_-_}
+use native.Mathlib.Omega.{arith}
+use lib.ListN.{length}
+use borrow.Author.Needs.{needs}
+use Rattle.utf8.proofs.Loops.{Filling, filling-start, filling-one, filling-two, filling-three, filling-four, filling-run-room, filling-run, filling-end}
+use Rattle.utf8.proofs.fill.Statement.{statement}
+use Rattle.utf8.proofs.fill.Tie as tie
+
+abbrev Inv-loop : tie.InvT-loop
+Inv-loop bytes out₀ i₀ n₀ out i n = Filling bytes out₀ out i n
+
+abbrev μ-loop : tie.MeasureT-loop
+μ-loop bytes out₀ i₀ n₀ out i n = length bytes - i
+
+loop-holds : tie.Need-loop-holds Inv-loop μ-loop
+loop-holds c = filling-start _ _ (c .before .before .pre .0) (c .before .before .pre .1)
+
+shared-slice-read-a : tie.Need-shared-slice-read-a Inv-loop μ-loop
+shared-slice-read-a c = search needs
+
+wide-requires : tie.Need-wide-requires Inv-loop μ-loop
+wide-requires c κs = search needs
+
+mul-out : tie.Need-mul-out Inv-loop μ-loop
+mul-out c = let s = filling-one _ _ _ _ _ (c .before .before .before .before .loop .inv) (c .before .before .before .loop-test .taken) (c .before .if1 .taken) in omega arith
+
+slice-write-out : tie.Need-slice-write-out Inv-loop μ-loop
+slice-write-out c = filling-one _ _ _ _ _ (c .before .before .before .before .loop .inv) (c .before .before .before .loop-test .taken) (c .before .if1 .taken) .room
+
+add-i : tie.Need-add-i Inv-loop μ-loop
+add-i c = omega arith
+
+add-n : tie.Need-add-n Inv-loop μ-loop
+add-n c = let s = filling-one _ _ _ _ _ (c .before .before .before .before .loop .inv) (c .before .before .before .loop-test .taken) (c .before .if1 .taken) in omega arith
+
+past-ascii-requires : tie.Need-past-ascii-requires Inv-loop μ-loop
+past-ascii-requires c κs = search needs
+
+sub-widen : tie.Need-sub-widen Inv-loop μ-loop
+sub-widen c = search needs
+
+part-widen-start : tie.Need-part-widen-start Inv-loop μ-loop
+part-widen-start c = search needs
+
+part-widen-end : tie.Need-part-widen-end Inv-loop μ-loop
+part-widen-end c = search needs
+
+widen-requires : tie.Need-widen-requires Inv-loop μ-loop
+widen-requires c κs = rw (c .before .before .before .wide .ensures .is) (filling-run-room _ _ _ _ _ (filling-one _ _ _ _ _ (c .before .before .before .before .before .before .before .loop .inv) (c .before .before .before .before .before .before .loop-test .taken) (c .before .before .before .before .if1 .taken) .next) _ (c .before .before .past-ascii .ensures))
+
+sub-n : tie.Need-sub-n Inv-loop μ-loop
+sub-n c = search needs
+
+add-n-2 : tie.Need-add-n-2 Inv-loop μ-loop
+add-n-2 c = let f = filling-one _ _ _ _ _ (c .before .before .before .before .before .before .before .before .before .before .loop .inv) (c .before .before .before .before .before .before .before .before .before .loop-test .taken) (c .before .before .before .before .before .before .before .if1 .taken) .next in let r = filling-run-room _ _ _ _ _ f _ (c .before .before .before .before .before .past-ascii .ensures) in omega arith
+
+loop-less : tie.Need-loop-less Inv-loop μ-loop
+loop-less c = omega arith
+
+loop-again : tie.Need-loop-again Inv-loop μ-loop
+loop-again c = rw (c .before .before .widen .ensures, c .before .before .before .before .before .before .wide .ensures .is) (filling-run _ _ _ _ _ (filling-one _ _ _ _ _ (c .before .before .before .before .before .before .before .before .before .before .loop .inv) (c .before .before .before .before .before .before .before .before .before .loop-test .taken) (c .before .before .before .before .before .before .before .if1 .taken) .next) _ (c .before .before .before .before .before .past-ascii .ensures))
+
+two-at-requires : tie.Need-two-at-requires Inv-loop μ-loop
+two-at-requires c κs = filling-two _ _ _ _ _ (c .before .before .before .before .loop .inv) (c .before .before .before .loop-test .taken) (c .before .if1 .left) (c .if2 .taken) .fits
+
+mul-out-2 : tie.Need-mul-out-2 Inv-loop μ-loop
+mul-out-2 c = let s = filling-two _ _ _ _ _ (c .before .before .before .before .before .loop .inv) (c .before .before .before .before .loop-test .taken) (c .before .before .if1 .left) (c .before .if2 .taken) in omega arith
+
+slice-write-out-2 : tie.Need-slice-write-out-2 Inv-loop μ-loop
+slice-write-out-2 c = filling-two _ _ _ _ _ (c .before .before .before .before .before .loop .inv) (c .before .before .before .before .loop-test .taken) (c .before .before .if1 .left) (c .before .if2 .taken) .room
+
+add-i-2 : tie.Need-add-i-2 Inv-loop μ-loop
+add-i-2 c = let s = filling-two _ _ _ _ _ (c .before .before .before .before .before .loop .inv) (c .before .before .before .before .loop-test .taken) (c .before .before .if1 .left) (c .before .if2 .taken) in omega arith
+
+add-n-3 : tie.Need-add-n-3 Inv-loop μ-loop
+add-n-3 c = let s = filling-two _ _ _ _ _ (c .before .before .before .before .before .loop .inv) (c .before .before .before .before .loop-test .taken) (c .before .before .if1 .left) (c .before .if2 .taken) in omega arith
+
+loop-less-2 : tie.Need-loop-less-2 Inv-loop μ-loop
+loop-less-2 c = let s = filling-two _ _ _ _ _ (c .before .before .before .before .before .loop .inv) (c .before .before .before .before .loop-test .taken) (c .before .before .if1 .left) (c .before .if2 .taken) in omega arith
+
+loop-again-2 : tie.Need-loop-again-2 Inv-loop μ-loop
+loop-again-2 c = rw (c .two-at .ensures) (filling-two _ _ _ _ _ (c .before .before .before .before .before .loop .inv) (c .before .before .before .before .loop-test .taken) (c .before .before .if1 .left) (c .before .if2 .taken) .next)
+
+three-at-requires : tie.Need-three-at-requires Inv-loop μ-loop
+three-at-requires c κs = filling-three _ _ _ _ _ (c .before .before .before .before .before .loop .inv) (c .before .before .before .before .loop-test .taken) (c .before .if2 .left) (c .if3 .taken) .fits
+
+mul-out-3 : tie.Need-mul-out-3 Inv-loop μ-loop
+mul-out-3 c = let s = filling-three _ _ _ _ _ (c .before .before .before .before .before .before .loop .inv) (c .before .before .before .before .before .loop-test .taken) (c .before .before .if2 .left) (c .before .if3 .taken) in omega arith
+
+slice-write-out-3 : tie.Need-slice-write-out-3 Inv-loop μ-loop
+slice-write-out-3 c = filling-three _ _ _ _ _ (c .before .before .before .before .before .before .loop .inv) (c .before .before .before .before .before .loop-test .taken) (c .before .before .if2 .left) (c .before .if3 .taken) .room
+
+add-i-3 : tie.Need-add-i-3 Inv-loop μ-loop
+add-i-3 c = let s = filling-three _ _ _ _ _ (c .before .before .before .before .before .before .loop .inv) (c .before .before .before .before .before .loop-test .taken) (c .before .before .if2 .left) (c .before .if3 .taken) in omega arith
+
+add-n-4 : tie.Need-add-n-4 Inv-loop μ-loop
+add-n-4 c = let s = filling-three _ _ _ _ _ (c .before .before .before .before .before .before .loop .inv) (c .before .before .before .before .before .loop-test .taken) (c .before .before .if2 .left) (c .before .if3 .taken) in omega arith
+
+loop-less-3 : tie.Need-loop-less-3 Inv-loop μ-loop
+loop-less-3 c = let s = filling-three _ _ _ _ _ (c .before .before .before .before .before .before .loop .inv) (c .before .before .before .before .before .loop-test .taken) (c .before .before .if2 .left) (c .before .if3 .taken) in omega arith
+
+loop-again-3 : tie.Need-loop-again-3 Inv-loop μ-loop
+loop-again-3 c = rw (c .three-at .ensures) (filling-three _ _ _ _ _ (c .before .before .before .before .before .before .loop .inv) (c .before .before .before .before .before .loop-test .taken) (c .before .before .if2 .left) (c .before .if3 .taken) .next)
+
+four-at-requires : tie.Need-four-at-requires Inv-loop μ-loop
+four-at-requires c κs = filling-four _ _ _ _ _ (c .before .before .before .before .before .loop .inv) (c .before .before .before .before .loop-test .taken) (c .if3 .left) .fits
+
+mul-out-4 : tie.Need-mul-out-4 Inv-loop μ-loop
+mul-out-4 c = let s = filling-four _ _ _ _ _ (c .before .before .before .before .before .before .loop .inv) (c .before .before .before .before .before .loop-test .taken) (c .before .if3 .left) in omega arith
+
+slice-write-out-4 : tie.Need-slice-write-out-4 Inv-loop μ-loop
+slice-write-out-4 c = filling-four _ _ _ _ _ (c .before .before .before .before .before .before .loop .inv) (c .before .before .before .before .before .loop-test .taken) (c .before .if3 .left) .room
+
+add-i-4 : tie.Need-add-i-4 Inv-loop μ-loop
+add-i-4 c = let s = filling-four _ _ _ _ _ (c .before .before .before .before .before .before .loop .inv) (c .before .before .before .before .before .loop-test .taken) (c .before .if3 .left) in omega arith
+
+add-n-5 : tie.Need-add-n-5 Inv-loop μ-loop
+add-n-5 c = let s = filling-four _ _ _ _ _ (c .before .before .before .before .before .before .loop .inv) (c .before .before .before .before .before .loop-test .taken) (c .before .if3 .left) in omega arith
+
+loop-less-4 : tie.Need-loop-less-4 Inv-loop μ-loop
+loop-less-4 c = let s = filling-four _ _ _ _ _ (c .before .before .before .before .before .before .loop .inv) (c .before .before .before .before .before .loop-test .taken) (c .before .if3 .left) in omega arith
+
+loop-again-4 : tie.Need-loop-again-4 Inv-loop μ-loop
+loop-again-4 c = rw (c .four-at .ensures) (filling-four _ _ _ _ _ (c .before .before .before .before .before .before .loop .inv) (c .before .before .before .before .before .loop-test .taken) (c .before .if3 .left) .next)
+
+same-length : tie.Need-same-length Inv-loop μ-loop
+same-length c = c .before .loop .inv .same
+
+returns : tie.Need-returns Inv-loop μ-loop
+returns c = filling-end _ _ _ _ _ (c .before .loop .inv) (c .loop-test .left)
+
+pub fill-spec : {M : Type 1} → statement M
+fill-spec =
+    tie.close
+    (tie.spec
+    Inv-loop
+    μ-loop
+    loop-holds
+    shared-slice-read-a
+    wide-requires
+    mul-out
+    slice-write-out
+    add-i
+    add-n
+    past-ascii-requires
+    sub-widen
+    part-widen-start
+    part-widen-end
+    widen-requires
+    sub-n
+    add-n-2
+    loop-less
+    loop-again
+    two-at-requires
+    mul-out-2
+    slice-write-out-2
+    add-i-2
+    add-n-3
+    loop-less-2
+    loop-again-2
+    three-at-requires
+    mul-out-3
+    slice-write-out-3
+    add-i-3
+    add-n-4
+    loop-less-3
+    loop-again-3
+    four-at-requires
+    mul-out-4
+    slice-write-out-4
+    add-i-4
+    add-n-5
+    loop-less-4
+    loop-again-4
+    same-length
+    returns)

@@ -1,0 +1,48 @@
+-- The bytes passed are ASCII: each turn adds one that was tested. Assumes nothing.
+use Prim.Native.Nat.{_-_}
+use lib.ListN.{length}
+use borrow.Author.Needs.{needs}
+use Rattle.utf8.specs.Ascii.{AsciiRun, run-none, run-more}
+use Rattle.utf8.proofs.past_ones.Statement.{statement}
+use Rattle.utf8.proofs.past_ones.Tie as tie
+
+abbrev Inv-loop : tie.InvT-loop
+Inv-loop b i j₀ j = AsciiRun b i j
+
+abbrev μ-loop : tie.MeasureT-loop
+μ-loop b i j₀ j = length b - j
+
+loop-holds : tie.Need-loop-holds Inv-loop μ-loop
+loop-holds c = run-none _ _ (c .pre)
+
+shared-slice-read-if1 : tie.Need-shared-slice-read-if1 Inv-loop μ-loop
+shared-slice-read-if1 c = search needs
+
+returns : tie.Need-returns Inv-loop μ-loop
+returns c = c .before .before .before .loop .inv
+
+add-j : tie.Need-add-j Inv-loop μ-loop
+add-j c = search needs
+
+loop-less : tie.Need-loop-less Inv-loop μ-loop
+loop-less c = search needs
+
+loop-again : tie.Need-loop-again Inv-loop μ-loop
+loop-again c = run-more _ _ _ (c .before .before .before .loop .inv) (c .before .before .loop-test .taken) (c .if1 .left)
+
+returns-2 : tie.Need-returns-2 Inv-loop μ-loop
+returns-2 c = c .before .loop .inv
+
+pub past-ones-spec : {M : Type 1} → statement M
+past-ones-spec =
+    tie.close
+    (tie.spec
+    Inv-loop
+    μ-loop
+    loop-holds
+    shared-slice-read-if1
+    returns
+    add-j
+    loop-less
+    loop-again
+    returns-2)
