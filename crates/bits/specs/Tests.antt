@@ -73,3 +73,18 @@ within-below lo hi b h = rw (lt-leb lo b h)
 
 pub within-above : (lo hi b : ℕ) → lo ≤ b → hi < b → within lo hi b ≡ false
 within-above lo hi b h k = rw (le-leb lo b h, lt-leb b hi k)
+
+-- what tests put together say of their parts
+pub same-true : (a b : Bool) → same a b ≡ true → a ≡ b
+same-true true true h = refl
+same-true true false h = cc
+same-true false true h = cc
+same-true false false h = refl
+
+pub implies-true : (a b : Bool) → implies a b ≡ true → a ≡ true → b ≡ true
+implies-true true b h e = h
+implies-true false b h e = cc
+
+pub or-l : (a b : Bool) → a || b ≡ true → b ≡ false → a ≡ true
+or-l true b h e = refl
+or-l false b h e = cc

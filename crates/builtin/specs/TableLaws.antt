@@ -7,13 +7,13 @@ use mathlib.Core.Path.{_≡_, refl}
 use native.Mathlib.Omega.{arith}
 use lib.Dec.{T, eqb, leb, ltb}
 use lib.ListN.{length, getD}
-use borrow.Author.Tests.{eqb-true, le-leb, ltb-true}
+use borrow.Author.Tests.{eqb-true, not-true, le-leb, ltb-true}
 use Rattle.bits.specs.Every.{at}
 use Rattle.bits.specs.Limits.{BUILTIN-END, LAST-RANGE, NEWLINE}
 use Rattle.bits.specs.Flags.{has, WHITESPACE, SEPARATOR, ASCII, ASCII-ALPHABETIC, ASCII-GRAPHIC, ASCII-DIGIT, LATIN, ACCENTUATED, FLAGS-END}
 use Rattle.bits.specs.FlagRule.{flagRule, casesRule, kindsRule, whiteRule, scriptsRule}
 use Rattle.bits.specs.Numbers.{bump, bump-small}
-use Rattle.bits.specs.Tests.{implies, same, scalar, and-l, and-r}
+use Rattle.bits.specs.Tests.{implies, same, scalar, and-l, and-r, or-l, same-true, implies-true}
 use Rattle.builtin.specs.declared.Entry.{Entry}
 use Rattle.builtin.specs.Words.{flagWords, rangeNumbers, bases, lowers}
 use Rattle.builtin.specs.Table.{entryAt}
@@ -49,24 +49,6 @@ pub record Lawful (p : ℕ) (e : Entry) : Type 0 where
 so : (b : Bool) → T b → b ≡ true
 so true t = refl
 so false t = absurd t
-
-same-so : (a b : Bool) → same a b ≡ true → a ≡ b
-same-so true true h = refl
-same-so true false h = cc
-same-so false true h = cc
-same-so false false h = refl
-
-implies-so : (a b : Bool) → implies a b ≡ true → a ≡ true → b ≡ true
-implies-so true b h e = h
-implies-so false b h e = cc
-
-not-so : (a : Bool) → not a ≡ true → a ≡ false
-not-so true h = cc
-not-so false h = refl
-
-or-so : (a b : Bool) → a || b ≡ true → b ≡ false → a ≡ true
-or-so true b h e = refl
-or-so false b h e = cc
 
 -- of five tests that hold together each holds
 module _ (a b c d e : Bool) (h : a && b && c && d && e ≡ true) where
@@ -106,19 +88,19 @@ parts p e h =
     let r5 = baseRule e in
     let h2 = is-2 r1 r2 r3 r4 r5 h in
     let h4 = is-4 r1 r2 r3 r4 r5 h in
-    let inLatin : isAsciiLetter p ≡ true → latin && plain ≡ true = implies-so (isAsciiLetter p) (latin && plain) (is-5 a1 a2 a3 a4 a5 h2) in
+    let inLatin : isAsciiLetter p ≡ true → latin && plain ≡ true = implies-true (isAsciiLetter p) (latin && plain) (is-5 a1 a2 a3 a4 a5 h2) in
     record {
       flags = is-1 r1 r2 r3 r4 r5 h;
-      ascii = same-so (has f ASCII) (isAscii p) (is-1 a1 a2 a3 a4 a5 h2);
-      letter = same-so (has f ASCII-ALPHABETIC) (isAsciiLetter p) (is-2 a1 a2 a3 a4 a5 h2);
-      graphic = same-so (has f ASCII-GRAPHIC) (isAsciiGraphic p) (is-3 a1 a2 a3 a4 a5 h2);
-      digit = same-so (has f ASCII-DIGIT) (isAsciiDigit p) (is-4 a1 a2 a3 a4 a5 h2);
+      ascii = same-true (has f ASCII) (isAscii p) (is-1 a1 a2 a3 a4 a5 h2);
+      letter = same-true (has f ASCII-ALPHABETIC) (isAsciiLetter p) (is-2 a1 a2 a3 a4 a5 h2);
+      graphic = same-true (has f ASCII-GRAPHIC) (isAsciiGraphic p) (is-3 a1 a2 a3 a4 a5 h2);
+      digit = same-true (has f ASCII-DIGIT) (isAsciiDigit p) (is-4 a1 a2 a3 a4 a5 h2);
       latin = λ i. and-l latin plain (inLatin i);
-      plain = λ i. not-so (has f ACCENTUATED) (and-r latin plain (inLatin i));
+      plain = λ i. not-true (has f ACCENTUATED) (and-r latin plain (inLatin i));
       range = eqb-true (e .range) (rangeOf p) (is-3 r1 r2 r3 r4 r5 h);
       base = and-l (scalar (e .base)) (scalar (e .lower)) h4;
       lower = and-r (scalar (e .base)) (scalar (e .lower)) h4;
-      baseless = λ i. eqb-true (e .base) 0 (or-so (eqb (e .base) 0) (has f ACCENTUATED) (is-5 r1 r2 r3 r4 r5 h) i);
+      baseless = λ i. eqb-true (e .base) 0 (or-l (eqb (e .base) 0) (has f ACCENTUATED) (is-5 r1 r2 r3 r4 r5 h) i);
     }
 
 -- the rule at each entry
