@@ -3,8 +3,8 @@
 -- SYMBOL, and where a NUMERIC symbol or an EMOTICON is no symbol. The laws stand in TooManySymbolOrPunctuationLaws.
 -- Assumes nothing.
 use Prim.Native.Nat.{ℕ, _+_, _*_, _≤_}
-use mathlib.Core.Bool.{Bool, true, false, cond, not, _&&_}
-use lib.Dec.{eqb}
+use mathlib.Core.Bool.{Bool, cond, not, _&&_}
+use lib.Dec.{ltb, eqb}
 use Rattle.bits.specs.Flags.{has, UNPRINTABLE, COMMON-SAFE, PUNCTUATION, NUMERIC, SYMBOL, EMOTICON}
 use Rattle.bits.specs.Numbers.{bump}
 use Rattle.classes.specs.declared.Class.{Class}
@@ -13,11 +13,11 @@ use Rattle.ratio.specs.Fraction.{MOST-NUM, atLeast, kept}
 use Rattle.plugins_counts.specs.declared.too_many_symbol_or_punctuation.TooManySymbolOrPunctuation.{TooManySymbolOrPunctuation}
 
 abbrev pub start : TooManySymbolOrPunctuation
-start = record { characters = 0; punctuation = 0; symbols = 0; seen = false; last = 0 }
+start = record { characters = 0; punctuation = 0; symbols = 0; last = 0 }
 
--- equal to the last printable character
+-- equal to the last printable character, which there is once one was counted
 unfoldable pub repeated : TooManySymbolOrPunctuation → Class → Bool
-repeated s c = s .seen && eqb (c .point) (s .last)
+repeated s c = ltb 0 (s .characters) && eqb (c .point) (s .last)
 
 -- may add to more than n
 unfoldable pub counts : TooManySymbolOrPunctuation → Class → Bool
@@ -33,7 +33,6 @@ printable s c =
       characters = s .characters + 1;
       punctuation = s .punctuation + bump (counts s c && has (c .flags) PUNCTUATION);
       symbols = s .symbols + bump (counts s c && countedSymbol (c .flags));
-      seen = true;
       last = c .point;
     }
 

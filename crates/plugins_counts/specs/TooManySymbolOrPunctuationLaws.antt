@@ -1,11 +1,13 @@
 -- How large the counts of symbols can be: a character that counts is punctuation or a symbol and not both, so the two together are at most
--- the printable characters. So a step has room, the fraction is proper, and its ratio is at most 2.
+-- the printable characters. So a step has room, the fraction is proper, and its ratio is at most 2. And `plain-printable`: a
+-- character that is neither punctuation nor a symbol adds only to n, which is the code's short way.
 -- Assumes nothing.
 use Prim.Native.Nat.{ℕ, _+_, _*_, _≤_}
-use mathlib.Core.Path.{_≡_}
-use mathlib.Core.Bool.{Bool, true, false, not, _&&_}
+use mathlib.Core.Path.{_≡_, refl}
+use mathlib.Core.Bool.{Bool, true, false, not, _&&_, _||_, and-false}
+use native.Mathlib.Nat.{add-zero}
 use native.Mathlib.Omega.{arith}
-use Rattle.bits.specs.Flags.{has, UNPRINTABLE, PUNCTUATION}
+use Rattle.bits.specs.Flags.{has, UNPRINTABLE, PUNCTUATION, SYMBOL}
 use Rattle.bits.specs.Limits.{LARGEST}
 use Rattle.bits.specs.Numbers.{bump, bump-small}
 use Rattle.bits.specs.Tests.{by-bool, cond-both}
@@ -57,3 +59,21 @@ module _ (k : ℕ) (s : TooManySymbolOrPunctuation) (w : Within k s) where
   pub fraction-bound : fraction s .num ≤ 2 * fraction s .den
   unfolding fraction
   fraction-bound = kept-bound 2 (atLeast 3 10 (share s)) (share s) (omega arith)
+
+-- only punctuation and symbols may count
+unfoldable pub marked : ℕ → Bool
+marked flags = has flags PUNCTUATION || has flags SYMBOL
+
+-- any other printable character adds only to n
+unfoldable pub plain : TooManySymbolOrPunctuation → ℕ → TooManySymbolOrPunctuation
+plain s point = record { characters = s .characters + 1; punctuation = s .punctuation; symbols = s .symbols; last = point }
+
+neither : (a b : Bool) → (a || b) ≡ false → (a ≡ false) × (b ≡ false)
+neither false b e = (refl, e)
+neither true b e = let z : true ≡ false = e in (z, cc)
+
+pub plain-printable : (s : TooManySymbolOrPunctuation) (c : Class) → marked (c .flags) ≡ false → plain s (c .point) ≡ printable s c
+unfolding marked plain printable countedSymbol
+plain-printable s c e =
+    let n = neither (has (c .flags) PUNCTUATION) (has (c .flags) SYMBOL) e in
+    simp (n .0, n .1, and-false, add-zero)

@@ -1,6 +1,7 @@
 // Symbols: how many of the printable characters are punctuation or symbols, a symbol being worth two.
 ghost use mathlib.Core.Path.{_≡_};
-ghost use Rattle.plugins_counts.specs.TooManySymbolOrPunctuation.{start, feed, counts, countedSymbol, share, fraction, Room};
+ghost use Rattle.plugins_counts.specs.TooManySymbolOrPunctuationLaws.{marked, plain};
+ghost use Rattle.plugins_counts.specs.TooManySymbolOrPunctuation.{start, feed, printable, counts, countedSymbol, share, fraction, Room};
 ghost use Rattle.ratio.specs.Fraction.{Small};
 use bits::flags::COMMON_SAFE;
 use bits::flags::EMOTICON;
@@ -23,9 +24,7 @@ pub struct TooManySymbolOrPunctuation {
     pub punctuation: u32,
     // half of symbol_count, which goes up by 2 for a symbol
     pub symbols: u32,
-    // last_printable_char: whether there is one
-    pub seen: bool,
-    // last_printable_char: its character
+    // last_printable_char: its character; there is one where `characters` is above 0
     pub last: u32,
 }
 
@@ -39,6 +38,13 @@ fn counted_symbol(flags: u32) -> bool
         & !is_set(flags, EMOTICON)
 }
 
+// Only punctuation and symbols may count.
+fn marked(flags: u32) -> bool
+    ensures { λ r. ⌜ r ≡ marked flags ⌝ }
+{
+    is_set(flags, PUNCTUATION) | is_set(flags, SYMBOL)
+}
+
 impl TooManySymbolOrPunctuation {
     pub fn start() -> TooManySymbolOrPunctuation
         ensures { λ r. ⌜ r ≡ start ⌝ }
@@ -47,7 +53,6 @@ impl TooManySymbolOrPunctuation {
             characters: 0,
             punctuation: 0,
             symbols: 0,
-            seen: false,
             last: 0,
         }
     }
@@ -56,7 +61,35 @@ impl TooManySymbolOrPunctuation {
     fn counts(self, c: Class) -> bool
         ensures { λ r. ⌜ r ≡ counts self c ⌝ }
     {
-        !(self.seen & (c.point == self.last)) & !is_set(c.flags, COMMON_SAFE)
+        !((0 < self.characters) & (c.point == self.last)) & !is_set(c.flags, COMMON_SAFE)
+    }
+
+    // A printable character that is neither punctuation nor a symbol: most are, and the compiler keeps their way short.
+    fn plain(self, point: u32) -> TooManySymbolOrPunctuation
+        requires { ⌜ Room self ⌝ }
+        ensures { λ r. ⌜ r ≡ plain self point ⌝ }
+    {
+        TooManySymbolOrPunctuation {
+            characters: self.characters + 1,
+            punctuation: self.punctuation,
+            symbols: self.symbols,
+            last: point,
+        }
+    }
+
+    // A printable character.
+    fn printable(self, c: Class) -> TooManySymbolOrPunctuation
+        requires { ⌜ Room self ⌝ }
+        ensures { λ r. ⌜ r ≡ printable self c ⌝ }
+    {
+        let counts = self.counts(c);
+        let point = c.point;
+        TooManySymbolOrPunctuation {
+            characters: self.characters + 1,
+            punctuation: self.punctuation + one(counts & is_set(c.flags, PUNCTUATION)),
+            symbols: self.symbols + one(counts & counted_symbol(c.flags)),
+            last: point,
+        }
     }
 
     pub fn feed(self, c: Class) -> TooManySymbolOrPunctuation
@@ -66,15 +99,10 @@ impl TooManySymbolOrPunctuation {
         if is_set(c.flags, UNPRINTABLE) {
             return self;
         }
-        let counts = self.counts(c);
-        let point = c.point;
-        TooManySymbolOrPunctuation {
-            characters: self.characters + 1,
-            punctuation: self.punctuation + one(counts & is_set(c.flags, PUNCTUATION)),
-            symbols: self.symbols + one(counts & counted_symbol(c.flags)),
-            seen: true,
-            last: point,
+        if marked(c.flags) {
+            return self.printable(c);
         }
+        self.plain(c.point)
     }
 
     pub fn fraction(self) -> Fraction

@@ -1,11 +1,13 @@
 -- How large the counts of doubled accents can be: a letter adds at most 2. So a step has room, the fraction is proper, and its ratio is at
--- most 4.
+-- most 4. And `plain-letter`: a letter without accent adds only to n, which is the code's short way.
 -- Assumes nothing.
 use Prim.Native.Nat.{ℕ, _+_, _*_, _≤_}
-use mathlib.Core.Bool.{true, _&&_}
+use mathlib.Core.Path.{_≡_}
+use mathlib.Core.Bool.{true, false, _&&_}
+use native.Mathlib.Nat.{add-zero}
 use native.Mathlib.Omega.{arith}
 use lib.Dec.{eqb}
-use Rattle.bits.specs.Flags.{ACCENTUATED, UPPERCASE}
+use Rattle.bits.specs.Flags.{has, ACCENTUATED, UPPERCASE}
 use Rattle.bits.specs.Limits.{LARGEST}
 use Rattle.bits.specs.Numbers.{bump-small}
 use Rattle.bits.specs.Tests.{cond-both}
@@ -51,3 +53,11 @@ module _ (k : ℕ) (s : SuspiciousDuplicateAccent) (w : Within k s) where
   pub fraction-bound : fraction s .num ≤ 4 * fraction s .den
   unfolding fraction
   fraction-bound = kept-bound 4 true (share s) (omega arith)
+
+-- a Latin letter without accent adds only to n
+unfoldable pub plain : SuspiciousDuplicateAccent → Class → SuspiciousDuplicateAccent
+plain s c = record { characters = s .characters + 1; successive = s .successive; flags = c .flags; base = c .base }
+
+pub plain-letter : (s : SuspiciousDuplicateAccent) (c : Class) → has (c .flags) ACCENTUATED ≡ false → plain s c ≡ letter s c
+unfolding plain letter both
+plain-letter s c e = simp (e, add-zero)

@@ -1,7 +1,8 @@
 // Doubled accents: how many accented Latin letters follow an accented one, both upper-case or of one base.
 ghost use mathlib.Core.Path.{_≡_};
 ghost use Prim.Native.Nat.{_<_};
-ghost use Rattle.plugins_neighbours.specs.SuspiciousDuplicateAccent.{start, feed, latinLetter, both, share, fraction, Room};
+ghost use Rattle.plugins_neighbours.specs.SuspiciousDuplicateAccent.{start, feed, latinLetter, both, letter, share, fraction, Room};
+ghost use Rattle.plugins_neighbours.specs.SuspiciousDuplicateAccentLaws.{plain};
 ghost use Rattle.ratio.specs.Fraction.{Small};
 use bits::flags::ACCENTUATED;
 use bits::flags::ALPHABETIC;
@@ -51,13 +52,26 @@ impl SuspiciousDuplicateAccent {
         is_set(flags, bit) & is_set(self.flags, bit)
     }
 
-    pub fn feed(self, c: Class) -> SuspiciousDuplicateAccent
+    // A letter without accent: most are, and their way is kept short.
+    fn plain(self, c: Class) -> SuspiciousDuplicateAccent
         requires { ⌜ Room self ⌝ }
-        ensures { λ r. ⌜ r ≡ feed self c ⌝ }
+        ensures { λ r. ⌜ r ≡ plain self c ⌝ }
     {
-        if !latin_letter(c.flags) {
-            return self;
+        let flags = c.flags;
+        let base = c.base;
+        SuspiciousDuplicateAccent {
+            characters: self.characters + 1,
+            successive: self.successive,
+            flags,
+            base,
         }
+    }
+
+    // A Latin letter.
+    fn letter(self, c: Class) -> SuspiciousDuplicateAccent
+        requires { ⌜ Room self ⌝ }
+        ensures { λ r. ⌜ r ≡ letter self c ⌝ }
+    {
         let flags = c.flags;
         let base = c.base;
         let accented = self.both(flags, ACCENTUATED);
@@ -69,6 +83,19 @@ impl SuspiciousDuplicateAccent {
             flags,
             base,
         }
+    }
+
+    pub fn feed(self, c: Class) -> SuspiciousDuplicateAccent
+        requires { ⌜ Room self ⌝ }
+        ensures { λ r. ⌜ r ≡ feed self c ⌝ }
+    {
+        if !latin_letter(c.flags) {
+            return self;
+        }
+        if is_set(c.flags, ACCENTUATED) {
+            return self.letter(c);
+        }
+        self.plain(c)
     }
 
     pub fn fraction(self) -> Fraction

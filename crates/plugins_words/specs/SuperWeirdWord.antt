@@ -3,7 +3,7 @@
 -- and the last flags": the length, the capitals among all its characters, the accents among its letters, the flags of its last character. The laws
 -- stand in SuperWeirdWordLaws.
 -- Assumes nothing.
-use Prim.Native.Nat.{ℕ, _+_, _*_, _≤_}
+use Prim.Native.Nat.{ℕ, _+_, _≤_}
 use mathlib.Core.Bool.{Bool, false, true, cond, not, _&&_, _||_}
 use lib.Dec.{leb, ltb, eqb}
 use Rattle.bits.specs.Flags.{has, WHITESPACE, SYMBOL, WEIRD-SAFE, PUNCTUATION, SEPARATOR, ASCII-ALPHABETIC, ASCII-DIGIT, LATIN, ACCENTUATED, CJK, HANGUL, KATAKANA, HIRAGANA, THAI, UPPERCASE}
@@ -11,6 +11,7 @@ use Rattle.bits.specs.Numbers.{bump}
 use Rattle.classes.specs.declared.Class.{Class}
 use Rattle.ratio.specs.declared.Fraction.{Fraction}
 use Rattle.ratio.specs.Fraction.{MOST-NUM, kept}
+use Rattle.ratio.specs.CutOffs.{above, atMost}
 use Rattle.plugins_words.specs.declared.super_weird_word.SuperWeirdWord.{SuperWeirdWord}
 
 -- "0 if at most 10 words"
@@ -93,7 +94,7 @@ symbol s f =
 
 -- "Accents over 17/50, from 4 characters in the word"
 unfoldable pub accented : SuperWeirdWord → Bool
-accented s = leb SHORT-WORD (s .length) && ltb (17 * s .length) (50 * s .accents)
+accented s = leb SHORT-WORD (s .length) && above 17 50 (record { num = s .accents; den = s .length })
 
 -- from 4 characters too: the last is an accented capital
 unfoldable pub capital : SuperWeirdWord → Bool
@@ -101,7 +102,7 @@ capital s = leb SHORT-WORD (s .length) && has (s .last) ACCENTUATED && has (s .l
 
 -- "camel case above 0 and up to 3/10"
 unfoldable pub camel : SuperWeirdWord → Bool
-camel s = ltb 0 (s .uppercase) && leb (10 * s .uppercase) (3 * s .length)
+camel s = ltb 0 (s .uppercase) && atMost 3 10 (record { num = s .uppercase; den = s .length })
 
 -- "from 24": a word with a letter that makes it foreign, and no camel case
 unfoldable pub long : SuperWeirdWord → Bool

@@ -1,6 +1,7 @@
--- An unprintable character returns the state; any other one returns `printable`, count by count. Assumes nothing.
+-- An unprintable character returns the state; any other one is `printable`, which is `plain` without a mark. Assumes nothing.
+use Rattle.plugins_counts.specs.TooManySymbolOrPunctuation.{feed}
+use Rattle.plugins_counts.specs.TooManySymbolOrPunctuationLaws.{plain-printable}
 use mathlib.Core.Path.{sym, _∙_}
-use Rattle.plugins_counts.specs.TooManySymbolOrPunctuation.{feed, printable}
 use borrow.Author.Needs.{needs}
 use Rattle.plugins_counts.proofs.too_many_symbol_or_punctuation.TooManySymbolOrPunctuation.feed.Statement.{
   statement,
@@ -14,35 +15,22 @@ returns : tie.Need-returns
 unfolding feed
 returns c = simp (sym (c .before .is-set .ensures) ∙ c .if1 .taken)
 
-counts-requires : tie.Need-counts-requires
-counts-requires c κs = search needs
+marked-requires : tie.Need-marked-requires
+marked-requires c κs = search needs
 
-add-t6 : tie.Need-add-t6
-add-t6 c = search needs
-
-is-set-requires-2 : tie.Need-is-set-requires-2
-is-set-requires-2 c κs = search needs
-
-one-requires : tie.Need-one-requires
-one-requires c κs = search needs
-
-add-t10 : tie.Need-add-t10
-add-t10 c = search needs
-
-counted-symbol-requires : tie.Need-counted-symbol-requires
-counted-symbol-requires c κs = search needs
-
-one-requires-2 : tie.Need-one-requires-2
-one-requires-2 c κs = search needs
-
-add-t14 : tie.Need-add-t14
-add-t14 c = search needs
+printable-requires : tie.Need-printable-requires
+printable-requires c κs = search needs
 
 returns-2 : tie.Need-returns-2
-unfolding feed printable
-returns-2 c =
-    let past = c .before .before .before .before .before .before .before .before in
-    simp (sym (past .before .is-set .ensures) ∙ past .if1 .left) (cc)
+unfolding feed
+returns-2 c = simp (sym (c .before .before .before .before .is-set .ensures) ∙ c .before .before .before .if1 .left) (c .printable .ensures)
+
+plain-requires : tie.Need-plain-requires
+plain-requires c κs = search needs
+
+returns-3 : tie.Need-returns-3
+unfolding feed
+returns-3 c = simp (sym (c .before .before .before .before .is-set .ensures) ∙ c .before .before .before .if1 .left) (c .plain .ensures ∙ plain-printable _ _ (sym (c .before .before .marked .ensures) ∙ c .before .if2 .left))
 
 pub feed-spec : {M : Type 1} → statement M
 feed-spec =
@@ -50,12 +38,8 @@ feed-spec =
     (tie.spec
     is-set-requires
     returns
-    counts-requires
-    add-t6
-    is-set-requires-2
-    one-requires
-    add-t10
-    counted-symbol-requires
-    one-requires-2
-    add-t14
-    returns-2)
+    marked-requires
+    printable-requires
+    returns-2
+    plain-requires
+    returns-3)
