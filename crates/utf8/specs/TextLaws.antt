@@ -10,8 +10,8 @@ use lib.ListN.{length, getD, List·getD-eq-default}
 use lib.Dec.{eqb, ltb}
 use borrow.Author.Tests.{lt-ltb, le-ltb, eqb-true, eqb-false, eq-eqb, ne-eqb}
 use Rattle.bits.specs.Tests.{by-test, cond-same, split}
-use Rattle.utf8.specs.WellFormed.{Step, row, byteAt, stepAt}
-use Rattle.utf8.specs.SoundLaws.{Sound, row-sound}
+use Rattle.utf8_table.specs.WellFormed.{Step, row, byteAt, stepAt}
+use Rattle.utf8_table.specs.SoundLaws.{Sound, row-sound}
 use Rattle.utf8.specs.Text.{Reading, ended, after, steps, reading, textOf, faultAt, wellFormed}
 
 -- what is read from the place i on
