@@ -4,3 +4,4 @@ pub mod EncodedLaws
 pub mod Ascii
 pub mod Answer
 pub mod AnswerLaws
+pub mod ReadLaws

@@ -129,3 +129,7 @@ module _ (bytes : List ℕ) where
   pub is-broken : faultAt bytes < length bytes → wellFormed bytes ≡ false
   unfolding wellFormed
   is-broken h = ne-eqb (faultAt bytes) (length bytes) (λ e. omega arith)
+
+  pub broken-is : wellFormed bytes ≡ false → faultAt bytes < length bytes
+  unfolding wellFormed
+  broken-is e = let n = eqb-false (faultAt bytes) (length bytes) e in let w = fault-within in split (faultAt bytes) (length bytes) (λ h. h) (λ h. absurd (n (omega arith)))

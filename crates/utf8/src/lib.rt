@@ -145,30 +145,30 @@ pub fn fill(bytes: &[u8], out: &mut [u32])
     requires { ⌜ (wellFormed (now bytes) ≡ true) × (length (textOf (now bytes)) ≤ length (now out)) ⌝ }
     ensures { λ _. ⌜ now (out .exit) ≡ filled (textOf (now (bytes .entry))) (now (out .entry)) ⌝ }
 {
-    let mut i = 0;
-    let mut n = 0;
-    while i < bytes.len() {
-        let a = bytes[i];
+    let mut from = 0;
+    let mut to = 0;
+    while from < bytes.len() {
+        let a = bytes[from];
         if a < 0x80 {
-            out[n] = wide(a);
-            i += 1;
-            n += 1;
-            let next = past_ascii(bytes, i);
-            widen(&bytes[i..next], out, n);
-            n += next - i;
-            i = next;
+            out[to] = wide(a);
+            from += 1;
+            to += 1;
+            let next = past_ascii(bytes, from);
+            widen(&bytes[from..next], out, to);
+            to += next - from;
+            from = next;
         } else if a < 0xE0 {
-            out[n] = two_at(bytes, i);
-            i += 2;
-            n += 1;
+            out[to] = two_at(bytes, from);
+            from += 2;
+            to += 1;
         } else if a < 0xF0 {
-            out[n] = three_at(bytes, i);
-            i += 3;
-            n += 1;
+            out[to] = three_at(bytes, from);
+            from += 3;
+            to += 1;
         } else {
-            out[n] = four_at(bytes, i);
-            i += 4;
-            n += 1;
+            out[to] = four_at(bytes, from);
+            from += 4;
+            to += 1;
         }
     }
 }
