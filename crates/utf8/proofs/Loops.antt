@@ -8,8 +8,8 @@ use native.Mathlib.Omega.{arith}
 use lib.ListN.{length, getD, take, drop, set, length-set, length-append, length-take, length-drop, take-append-drop}
 use lib.Seq.{paste, paste-zero, paste-suc, take-suc-set, drop-set-lt, drop-drop, length-take-le, length-paste, take-paste, drop-paste, take-length}
 use Rattle.utf8.specs.declared.Measured.the-variants.{Points, Fault}
-use Rattle.utf8.specs.WellFormed.{Step, noRow, pointOfTwo, pointOfThree, pointOfFour, byteAt, stepAt}
-use Rattle.utf8.specs.CompleteLaws.{got}
+use Rattle.utf8_table.specs.WellFormed.{Step, noRow, pointOfTwo, pointOfThree, pointOfFour, byteAt, stepAt}
+use Rattle.utf8_table.specs.CompleteLaws.{got}
 use Rattle.utf8.specs.Text.{Reading, ended, after, textOf, faultAt, wellFormed}
 use Rattle.utf8.specs.TextLaws.{from, past, from-start, from-end, from-step, step-fits, whole-is, is-whole, is-broken}
 use Rattle.utf8.specs.Ascii.{AsciiRun, run-first, run-text}

@@ -5,8 +5,8 @@ use mathlib.Core.List.{List}
 use mathlib.Core.Bool.{Bool, true, false, cond}
 use native.Mathlib.Omega.{arith}
 use lib.ListN.{length}
-use Rattle.utf8.specs.WellFormed.{Step, one, two, three, four, noRow, byteAt, stepAt}
-use Rattle.utf8.specs.ByLead.{leadsTwo, leadsThree, leadsFour, row-one, row-two, row-three, row-four}
+use Rattle.utf8_table.specs.WellFormed.{Step, one, two, three, four, noRow, byteAt, stepAt}
+use Rattle.utf8_table.specs.ByLead.{leadsTwo, leadsThree, leadsFour, row-one, row-two, row-three, row-four}
 use Rattle.utf8.specs.TextLaws.{at-row}
 
 -- what a test decides, where it holds, where it does not, and where something is known to stand

@@ -12,15 +12,10 @@ use lib.Seq.{drop-cons}
 use lib.Dec.{ltb}
 use borrow.Author.Tests.{ltb-true}
 use Rattle.bits.specs.Tests.{split, and-l, and-r}
-use Rattle.utf8.specs.WellFormed.{one, byteAt, stepAt}
-use Rattle.utf8.specs.ByLead.{row-one}
+use Rattle.utf8_table.specs.WellFormed.{one, byteAt, stepAt}
+use Rattle.utf8_table.specs.ByLead.{row-one}
 use Rattle.utf8.specs.Text.{Reading, after}
 use Rattle.utf8.specs.TextLaws.{from, at-row, from-step}
-
--- what `wide` ensures: the byte, and that it is one
-pub record Wide (b r : ℕ) : Type 0 where
-  pub is : r ≡ b
-  pub small : r < 256
 
 -- the bytes from i up to r are ASCII
 pub record AsciiRun (bytes : List ℕ) (i r : ℕ) : Type 0 where

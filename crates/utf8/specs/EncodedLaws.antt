@@ -13,11 +13,11 @@ use lib.Seq.{take-add, take-length, drop-cons, drop-drop, drop-append-seam, getD
 use lib.Dec.{eqb}
 use borrow.Author.Tests.{eqb-false}
 use Rattle.bits.specs.Tests.{scalar, by-test, and-l, and-r}
-use Rattle.utf8.specs.Encoding.{encode, encodeAll, scalars}
-use Rattle.utf8.specs.EncodingLaws.{encode-size}
-use Rattle.utf8.specs.WellFormed.{Step, row, stepAt}
-use Rattle.utf8.specs.SoundLaws.{Sound}
-use Rattle.utf8.specs.CompleteLaws.{got, rowOf, row-complete}
+use Rattle.utf8_table.specs.Encoding.{encode, encodeAll, scalars}
+use Rattle.utf8_table.specs.EncodingLaws.{encode-size}
+use Rattle.utf8_table.specs.WellFormed.{Step, row, stepAt}
+use Rattle.utf8_table.specs.SoundLaws.{Sound}
+use Rattle.utf8_table.specs.CompleteLaws.{got, rowOf, row-complete}
 use Rattle.utf8.specs.Text.{Reading, after, steps, reading, textOf, faultAt, wellFormed}
 use Rattle.utf8.specs.TextLaws.{from, past, at-row, step-sound, step-fits, from-start, from-end, from-step, from-after, whole-is, is-whole}
 

@@ -1,12 +1,7 @@
-pub mod Encoding
-pub mod EncodingLaws
-pub mod WellFormed
-pub mod ByLead
-pub mod SoundLaws
-pub mod CompleteLaws
 pub mod Text
 pub mod TextLaws
 pub mod EncodedLaws
 pub mod Ascii
 pub mod Answer
 pub mod AnswerLaws
+pub mod ReadLaws

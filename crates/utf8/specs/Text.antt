@@ -5,7 +5,7 @@ use mathlib.Core.List.{List, [], _∷_, _++_}
 use mathlib.Core.Bool.{Bool, cond}
 use lib.ListN.{length}
 use lib.Dec.{eqb}
-use Rattle.utf8.specs.WellFormed.{stepAt}
+use Rattle.utf8_table.specs.WellFormed.{stepAt}
 
 -- code points, and the place where they end
 pub record Reading : Type 0 where

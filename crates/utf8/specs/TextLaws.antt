@@ -10,8 +10,8 @@ use lib.ListN.{length, getD, List·getD-eq-default}
 use lib.Dec.{eqb, ltb}
 use borrow.Author.Tests.{lt-ltb, le-ltb, eqb-true, eqb-false, eq-eqb, ne-eqb}
 use Rattle.bits.specs.Tests.{by-test, cond-same, split}
-use Rattle.utf8.specs.WellFormed.{Step, row, byteAt, stepAt}
-use Rattle.utf8.specs.SoundLaws.{Sound, row-sound}
+use Rattle.utf8_table.specs.WellFormed.{Step, row, byteAt, stepAt}
+use Rattle.utf8_table.specs.SoundLaws.{Sound, row-sound}
 use Rattle.utf8.specs.Text.{Reading, ended, after, steps, reading, textOf, faultAt, wellFormed}
 
 -- what is read from the place i on
@@ -129,3 +129,7 @@ module _ (bytes : List ℕ) where
   pub is-broken : faultAt bytes < length bytes → wellFormed bytes ≡ false
   unfolding wellFormed
   is-broken h = ne-eqb (faultAt bytes) (length bytes) (λ e. omega arith)
+
+  pub broken-is : wellFormed bytes ≡ false → faultAt bytes < length bytes
+  unfolding wellFormed
+  broken-is e = let n = eqb-false (faultAt bytes) (length bytes) e in let w = fault-within in split (faultAt bytes) (length bytes) (λ h. h) (λ h. absurd (n (omega arith)))

@@ -3,19 +3,22 @@
 use bits::Refusal;
 use bits::limits::LONGEST_BYTES;
 use bits::limits::LONGEST_TEXT;
-use bits::pick;
 use bits::refusals::ILL_FORMED;
 use bits::refusals::NO_ROOM;
 use bits::refusals::TOO_LONG;
+use utf8_table::four_at;
+use utf8_table::is_four;
+use utf8_table::is_three;
+use utf8_table::is_two;
+use utf8_table::three_at;
+use utf8_table::two_at;
+use utf8_table::wide;
 ghost use mathlib.Core.Bool.{true};
 ghost use mathlib.Core.Path.{_≡_};
 ghost use Prim.Native.Nat.{_+_, _≤_, _<_};
 ghost use lib.ListN.{length};
 ghost use lib.Seq.{paste};
-ghost use Rattle.bits.specs.Tests.{within};
-ghost use Rattle.utf8.specs.WellFormed.{continues, byteAt, pointOfTwo, pointOfThree, pointOfFour};
-ghost use Rattle.utf8.specs.ByLead.{leadsTwo, leadsThree, leadsFour};
-ghost use Rattle.utf8.specs.Ascii.{Wide, AsciiRun, asciiOn};
+ghost use Rattle.utf8.specs.Ascii.{AsciiRun, asciiOn};
 ghost use Rattle.utf8.specs.Text.{textOf, wellFormed};
 ghost use Rattle.utf8.specs.Answer.{measured, counted, refused, answer, filled, outAfter};
 
@@ -29,86 +32,6 @@ pub enum Read {
 pub enum Measured {
     Points(usize),
     Fault(usize),
-}
-
-fn wide(b: u8) -> u32
-    ensures { λ r. ⌜ Wide b r ⌝ }
-{
-    b as u32
-}
-
-// Whether b lies in lo..=hi.
-fn in_range(lo: u32, hi: u32, b: u32) -> bool
-    ensures { λ r. ⌜ r ≡ within lo hi b ⌝ }
-{
-    (lo <= b) & (b <= hi)
-}
-
-// Whether a sequence of two stands at i, where the byte is 80 to DF.
-fn is_two(b: &[u8], i: usize) -> bool
-    requires { ⌜ i < length (now b) ⌝ }
-    ensures { λ r. ⌜ r ≡ leadsTwo (byteAt (now (b .entry)) i) (byteAt (now (b .entry)) (i + 1)) ⌝ }
-{
-    if b.len() - i < 2 {
-        return false;
-    }
-    (0xC2 <= wide(b[i])) & in_range(0x80, 0xBF, wide(b[i + 1]))
-}
-
-// Whether a sequence of three stands at i, where the byte is E0 to EF. E0 and ED have narrower bounds for the second byte.
-fn is_three(b: &[u8], i: usize) -> bool
-    requires { ⌜ i < length (now b) ⌝ }
-    ensures { λ r. ⌜ r ≡ leadsThree (byteAt (now (b .entry)) i) (byteAt (now (b .entry)) (i + 1)) (byteAt (now (b .entry)) (i + 2)) ⌝ }
-{
-    if b.len() - i < 3 {
-        return false;
-    }
-    let a = wide(b[i]);
-    let lo = pick(a == 0xE0, 0xA0, 0x80);
-    let hi = pick(a == 0xED, 0x9F, 0xBF);
-    in_range(lo, hi, wide(b[i + 1])) & in_range(0x80, 0xBF, wide(b[i + 2]))
-}
-
-// Whether a sequence of four stands at i, where the byte is F0 or more. F0 and F4 have narrower bounds for the second byte.
-fn is_four(b: &[u8], i: usize) -> bool
-    requires { ⌜ i < length (now b) ⌝ }
-    ensures { λ r. ⌜ r ≡ leadsFour (byteAt (now (b .entry)) i) (byteAt (now (b .entry)) (i + 1)) (byteAt (now (b .entry)) (i + 2)) (byteAt (now (b .entry)) (i + 3)) ⌝ }
-{
-    if b.len() - i < 4 {
-        return false;
-    }
-    let a = wide(b[i]);
-    let lo = pick(a == 0xF0, 0x90, 0x80);
-    let hi = pick(a == 0xF4, 0x8F, 0xBF);
-    (a <= 0xF4)
-        & in_range(lo, hi, wide(b[i + 1]))
-        & in_range(0x80, 0xBF, wide(b[i + 2]))
-        & in_range(0x80, 0xBF, wide(b[i + 3]))
-}
-
-// The code points of the sequences of two, three and four at i.
-fn two_at(b: &[u8], i: usize) -> u32
-    requires { ⌜ i + 2 ≤ length (now b) ⌝ }
-    ensures { λ r. ⌜ r ≡ pointOfTwo (byteAt (now (b .entry)) i) (byteAt (now (b .entry)) (i + 1)) ⌝ }
-{
-    wide(b[i]) % 32 * 64 + wide(b[i + 1]) % 64
-}
-
-fn three_at(b: &[u8], i: usize) -> u32
-    requires { ⌜ i + 3 ≤ length (now b) ⌝ }
-    ensures { λ r. ⌜ r ≡ pointOfThree (byteAt (now (b .entry)) i) (byteAt (now (b .entry)) (i + 1)) (byteAt (now (b .entry)) (i + 2)) ⌝ }
-{
-    wide(b[i]) % 16 * 4096 + wide(b[i + 1]) % 64 * 64 + wide(b[i + 2]) % 64
-}
-
-fn four_at(b: &[u8], i: usize) -> u32
-    requires { ⌜ i + 4 ≤ length (now b) ⌝ }
-    ensures { λ r. ⌜ r ≡ pointOfFour (byteAt (now (b .entry)) i) (byteAt (now (b .entry)) (i + 1)) (byteAt (now (b .entry)) (i + 2)) (byteAt (now (b .entry)) (i + 3)) ⌝ }
-{
-    wide(b[i]) % 8 * 262144
-        + wide(b[i + 1]) % 64 * 4096
-        + wide(b[i + 2]) % 64 * 64
-        + wide(b[i + 3]) % 64
 }
 
 // Whether the eight bytes from i on are ASCII. Plain tests joined by &, of which the compiler makes one load and one test.
@@ -222,30 +145,30 @@ pub fn fill(bytes: &[u8], out: &mut [u32])
     requires { ⌜ (wellFormed (now bytes) ≡ true) × (length (textOf (now bytes)) ≤ length (now out)) ⌝ }
     ensures { λ _. ⌜ now (out .exit) ≡ filled (textOf (now (bytes .entry))) (now (out .entry)) ⌝ }
 {
-    let mut i = 0;
-    let mut n = 0;
-    while i < bytes.len() {
-        let a = bytes[i];
+    let mut from = 0;
+    let mut to = 0;
+    while from < bytes.len() {
+        let a = bytes[from];
         if a < 0x80 {
-            out[n] = wide(a);
-            i += 1;
-            n += 1;
-            let next = past_ascii(bytes, i);
-            widen(&bytes[i..next], out, n);
-            n += next - i;
-            i = next;
+            out[to] = wide(a);
+            from += 1;
+            to += 1;
+            let next = past_ascii(bytes, from);
+            widen(&bytes[from..next], out, to);
+            to += next - from;
+            from = next;
         } else if a < 0xE0 {
-            out[n] = two_at(bytes, i);
-            i += 2;
-            n += 1;
+            out[to] = two_at(bytes, from);
+            from += 2;
+            to += 1;
         } else if a < 0xF0 {
-            out[n] = three_at(bytes, i);
-            i += 3;
-            n += 1;
+            out[to] = three_at(bytes, from);
+            from += 3;
+            to += 1;
         } else {
-            out[n] = four_at(bytes, i);
-            i += 4;
-            n += 1;
+            out[to] = four_at(bytes, from);
+            from += 4;
+            to += 1;
         }
     }
 }

@@ -1,4 +1,4 @@
--- The first n places hold the text up to i and the rest is as it was: each turn writes the next code point, or a run of ASCII, there. Assumes nothing.
+-- The first `to` places hold the text up to `from` and the rest is as it was: each turn writes the next code point, or a run of ASCII, there. Assumes nothing.
 use Prim.Native.Nat.{_-_}
 use native.Mathlib.Omega.{arith}
 use lib.ListN.{length}
@@ -8,10 +8,10 @@ use Rattle.utf8.proofs.fill.Statement.{statement}
 use Rattle.utf8.proofs.fill.Tie as tie
 
 abbrev Inv-loop : tie.InvT-loop
-Inv-loop bytes out₀ i₀ n₀ out i n = Filling bytes out₀ out i n
+Inv-loop bytes out₀ from₀ to₀ out from to = Filling bytes out₀ out from to
 
 abbrev μ-loop : tie.MeasureT-loop
-μ-loop bytes out₀ i₀ n₀ out i n = length bytes - i
+μ-loop bytes out₀ from₀ to₀ out from to = length bytes - from
 
 loop-holds : tie.Need-loop-holds Inv-loop μ-loop
 loop-holds c = filling-start _ _ (c .before .before .pre .0) (c .before .before .pre .1)
@@ -28,11 +28,11 @@ mul-out c = let s = filling-one _ _ _ _ _ (c .before .before .before .before .lo
 slice-write-out : tie.Need-slice-write-out Inv-loop μ-loop
 slice-write-out c = filling-one _ _ _ _ _ (c .before .before .before .before .loop .inv) (c .before .before .before .loop-test .taken) (c .before .if1 .taken) .room
 
-add-i : tie.Need-add-i Inv-loop μ-loop
-add-i c = omega arith
+add-from : tie.Need-add-from Inv-loop μ-loop
+add-from c = omega arith
 
-add-n : tie.Need-add-n Inv-loop μ-loop
-add-n c = let s = filling-one _ _ _ _ _ (c .before .before .before .before .loop .inv) (c .before .before .before .loop-test .taken) (c .before .if1 .taken) in omega arith
+add-to : tie.Need-add-to Inv-loop μ-loop
+add-to c = let s = filling-one _ _ _ _ _ (c .before .before .before .before .loop .inv) (c .before .before .before .loop-test .taken) (c .before .if1 .taken) in omega arith
 
 past-ascii-requires : tie.Need-past-ascii-requires Inv-loop μ-loop
 past-ascii-requires c κs = search needs
@@ -49,11 +49,11 @@ part-widen-end c = search needs
 widen-requires : tie.Need-widen-requires Inv-loop μ-loop
 widen-requires c κs = rw (c .before .before .before .wide .ensures .is) (filling-run-room _ _ _ _ _ (filling-one _ _ _ _ _ (c .before .before .before .before .before .before .before .loop .inv) (c .before .before .before .before .before .before .loop-test .taken) (c .before .before .before .before .if1 .taken) .next) _ (c .before .before .past-ascii .ensures))
 
-sub-n : tie.Need-sub-n Inv-loop μ-loop
-sub-n c = search needs
+sub-to : tie.Need-sub-to Inv-loop μ-loop
+sub-to c = search needs
 
-add-n-2 : tie.Need-add-n-2 Inv-loop μ-loop
-add-n-2 c = let f = filling-one _ _ _ _ _ (c .before .before .before .before .before .before .before .before .before .before .loop .inv) (c .before .before .before .before .before .before .before .before .before .loop-test .taken) (c .before .before .before .before .before .before .before .if1 .taken) .next in let r = filling-run-room _ _ _ _ _ f _ (c .before .before .before .before .before .past-ascii .ensures) in omega arith
+add-to-2 : tie.Need-add-to-2 Inv-loop μ-loop
+add-to-2 c = let f = filling-one _ _ _ _ _ (c .before .before .before .before .before .before .before .before .before .before .loop .inv) (c .before .before .before .before .before .before .before .before .before .loop-test .taken) (c .before .before .before .before .before .before .before .if1 .taken) .next in let r = filling-run-room _ _ _ _ _ f _ (c .before .before .before .before .before .past-ascii .ensures) in omega arith
 
 loop-less : tie.Need-loop-less Inv-loop μ-loop
 loop-less c = omega arith
@@ -70,11 +70,11 @@ mul-out-2 c = let s = filling-two _ _ _ _ _ (c .before .before .before .before .
 slice-write-out-2 : tie.Need-slice-write-out-2 Inv-loop μ-loop
 slice-write-out-2 c = filling-two _ _ _ _ _ (c .before .before .before .before .before .loop .inv) (c .before .before .before .before .loop-test .taken) (c .before .before .if1 .left) (c .before .if2 .taken) .room
 
-add-i-2 : tie.Need-add-i-2 Inv-loop μ-loop
-add-i-2 c = let s = filling-two _ _ _ _ _ (c .before .before .before .before .before .loop .inv) (c .before .before .before .before .loop-test .taken) (c .before .before .if1 .left) (c .before .if2 .taken) in omega arith
+add-from-2 : tie.Need-add-from-2 Inv-loop μ-loop
+add-from-2 c = let s = filling-two _ _ _ _ _ (c .before .before .before .before .before .loop .inv) (c .before .before .before .before .loop-test .taken) (c .before .before .if1 .left) (c .before .if2 .taken) in omega arith
 
-add-n-3 : tie.Need-add-n-3 Inv-loop μ-loop
-add-n-3 c = let s = filling-two _ _ _ _ _ (c .before .before .before .before .before .loop .inv) (c .before .before .before .before .loop-test .taken) (c .before .before .if1 .left) (c .before .if2 .taken) in omega arith
+add-to-3 : tie.Need-add-to-3 Inv-loop μ-loop
+add-to-3 c = let s = filling-two _ _ _ _ _ (c .before .before .before .before .before .loop .inv) (c .before .before .before .before .loop-test .taken) (c .before .before .if1 .left) (c .before .if2 .taken) in omega arith
 
 loop-less-2 : tie.Need-loop-less-2 Inv-loop μ-loop
 loop-less-2 c = let s = filling-two _ _ _ _ _ (c .before .before .before .before .before .loop .inv) (c .before .before .before .before .loop-test .taken) (c .before .before .if1 .left) (c .before .if2 .taken) in omega arith
@@ -91,11 +91,11 @@ mul-out-3 c = let s = filling-three _ _ _ _ _ (c .before .before .before .before
 slice-write-out-3 : tie.Need-slice-write-out-3 Inv-loop μ-loop
 slice-write-out-3 c = filling-three _ _ _ _ _ (c .before .before .before .before .before .before .loop .inv) (c .before .before .before .before .before .loop-test .taken) (c .before .before .if2 .left) (c .before .if3 .taken) .room
 
-add-i-3 : tie.Need-add-i-3 Inv-loop μ-loop
-add-i-3 c = let s = filling-three _ _ _ _ _ (c .before .before .before .before .before .before .loop .inv) (c .before .before .before .before .before .loop-test .taken) (c .before .before .if2 .left) (c .before .if3 .taken) in omega arith
+add-from-3 : tie.Need-add-from-3 Inv-loop μ-loop
+add-from-3 c = let s = filling-three _ _ _ _ _ (c .before .before .before .before .before .before .loop .inv) (c .before .before .before .before .before .loop-test .taken) (c .before .before .if2 .left) (c .before .if3 .taken) in omega arith
 
-add-n-4 : tie.Need-add-n-4 Inv-loop μ-loop
-add-n-4 c = let s = filling-three _ _ _ _ _ (c .before .before .before .before .before .before .loop .inv) (c .before .before .before .before .before .loop-test .taken) (c .before .before .if2 .left) (c .before .if3 .taken) in omega arith
+add-to-4 : tie.Need-add-to-4 Inv-loop μ-loop
+add-to-4 c = let s = filling-three _ _ _ _ _ (c .before .before .before .before .before .before .loop .inv) (c .before .before .before .before .before .loop-test .taken) (c .before .before .if2 .left) (c .before .if3 .taken) in omega arith
 
 loop-less-3 : tie.Need-loop-less-3 Inv-loop μ-loop
 loop-less-3 c = let s = filling-three _ _ _ _ _ (c .before .before .before .before .before .before .loop .inv) (c .before .before .before .before .before .loop-test .taken) (c .before .before .if2 .left) (c .before .if3 .taken) in omega arith
@@ -112,11 +112,11 @@ mul-out-4 c = let s = filling-four _ _ _ _ _ (c .before .before .before .before 
 slice-write-out-4 : tie.Need-slice-write-out-4 Inv-loop μ-loop
 slice-write-out-4 c = filling-four _ _ _ _ _ (c .before .before .before .before .before .before .loop .inv) (c .before .before .before .before .before .loop-test .taken) (c .before .if3 .left) .room
 
-add-i-4 : tie.Need-add-i-4 Inv-loop μ-loop
-add-i-4 c = let s = filling-four _ _ _ _ _ (c .before .before .before .before .before .before .loop .inv) (c .before .before .before .before .before .loop-test .taken) (c .before .if3 .left) in omega arith
+add-from-4 : tie.Need-add-from-4 Inv-loop μ-loop
+add-from-4 c = let s = filling-four _ _ _ _ _ (c .before .before .before .before .before .before .loop .inv) (c .before .before .before .before .before .loop-test .taken) (c .before .if3 .left) in omega arith
 
-add-n-5 : tie.Need-add-n-5 Inv-loop μ-loop
-add-n-5 c = let s = filling-four _ _ _ _ _ (c .before .before .before .before .before .before .loop .inv) (c .before .before .before .before .before .loop-test .taken) (c .before .if3 .left) in omega arith
+add-to-5 : tie.Need-add-to-5 Inv-loop μ-loop
+add-to-5 c = let s = filling-four _ _ _ _ _ (c .before .before .before .before .before .before .loop .inv) (c .before .before .before .before .before .loop-test .taken) (c .before .if3 .left) in omega arith
 
 loop-less-4 : tie.Need-loop-less-4 Inv-loop μ-loop
 loop-less-4 c = let s = filling-four _ _ _ _ _ (c .before .before .before .before .before .before .loop .inv) (c .before .before .before .before .before .loop-test .taken) (c .before .if3 .left) in omega arith
@@ -141,36 +141,36 @@ fill-spec =
     wide-requires
     mul-out
     slice-write-out
-    add-i
-    add-n
+    add-from
+    add-to
     past-ascii-requires
     sub-widen
     part-widen-start
     part-widen-end
     widen-requires
-    sub-n
-    add-n-2
+    sub-to
+    add-to-2
     loop-less
     loop-again
     two-at-requires
     mul-out-2
     slice-write-out-2
-    add-i-2
-    add-n-3
+    add-from-2
+    add-to-3
     loop-less-2
     loop-again-2
     three-at-requires
     mul-out-3
     slice-write-out-3
-    add-i-3
-    add-n-4
+    add-from-3
+    add-to-4
     loop-less-3
     loop-again-3
     four-at-requires
     mul-out-4
     slice-write-out-4
-    add-i-4
-    add-n-5
+    add-from-4
+    add-to-5
     loop-less-4
     loop-again-4
     same-length

@@ -10,10 +10,10 @@ use lib.Dec.{eqb}
 use borrow.Author.Tests.{le-leb, eqb-true}
 use Rattle.bits.specs.Limits.{LAST-POINT}
 use Rattle.bits.specs.Tests.{within, scalar, by-test, split, within-yes}
-use Rattle.utf8.specs.Encoding.{encode}
-use Rattle.utf8.specs.WellFormed.{Step, pointOfTwo, pointOfThree, pointOfFour, row}
-use Rattle.utf8.specs.ByLead.{leadsTwo, leadsThree, leadsFour, row-one, row-two, row-three, row-four}
-use Rattle.utf8.specs.EncodingLaws.{scalar-top, scalar-apart, encode-1, encode-2, encode-3, encode-4}
+use Rattle.utf8_table.specs.Encoding.{encode}
+use Rattle.utf8_table.specs.WellFormed.{Step, pointOfTwo, pointOfThree, pointOfFour, row}
+use Rattle.utf8_table.specs.ByLead.{leadsTwo, leadsThree, leadsFour, row-one, row-two, row-three, row-four}
+use Rattle.utf8_table.specs.EncodingLaws.{scalar-top, scalar-apart, encode-1, encode-2, encode-3, encode-4}
 
 -- the row of each scalar value's bytes, whatever follows them
 abbrev pub got : ℕ → ℕ → Step

@@ -10,10 +10,10 @@ use lib.Dec.{leb, eqb}
 use borrow.Author.Tests.{leb-true, eqb-false}
 use Rattle.bits.specs.Limits.{LAST-POINT}
 use Rattle.bits.specs.Tests.{within, scalar, by-test, by-bool, split, and-l, and-r, within-lo, within-hi}
-use Rattle.utf8.specs.Encoding.{encode}
-use Rattle.utf8.specs.WellFormed.{Step, pointOfTwo, pointOfThree, pointOfFour, one, two, three, four, noRow, continues, row}
-use Rattle.utf8.specs.ByLead.{leadsTwo, leadsThree, leadsFour, row-one, row-two, row-three, row-four}
-use Rattle.utf8.specs.EncodingLaws.{scalar-low, scalar-high, encode-1, encode-2, encode-3, encode-4}
+use Rattle.utf8_table.specs.Encoding.{encode}
+use Rattle.utf8_table.specs.WellFormed.{Step, pointOfTwo, pointOfThree, pointOfFour, one, two, three, four, noRow, continues, row}
+use Rattle.utf8_table.specs.ByLead.{leadsTwo, leadsThree, leadsFour, row-one, row-two, row-three, row-four}
+use Rattle.utf8_table.specs.EncodingLaws.{scalar-low, scalar-high, encode-1, encode-2, encode-3, encode-4}
 
 -- what a row gives. That each byte after the first is above 0 says that it lies within the byte string
 pub record Sound (a b c d : ℕ) (s : Step) : Type 0 where

@@ -7,7 +7,7 @@ use native.Mathlib.Omega.{arith}
 use lib.Dec.{leb, eqb}
 use borrow.Author.Tests.{le-leb, lt-leb, ne-eqb}
 use Rattle.bits.specs.Tests.{within, split, within-yes, within-below, within-above}
-use Rattle.utf8.specs.WellFormed.{Step, one, two, three, four, noRow, continues, isTwo, isThree, isFour, row}
+use Rattle.utf8_table.specs.WellFormed.{Step, one, two, three, four, noRow, continues, isTwo, isThree, isFour, row}
 
 unfoldable pub leadsTwo : ℕ → ℕ → Bool
 leadsTwo a b = leb 0xC2 a && continues b

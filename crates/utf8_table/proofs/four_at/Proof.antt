@@ -1,7 +1,7 @@
 -- The value is Table 3-6 from right to left, and fits since each part is a remainder. Assumes nothing.
 use borrow.Author.Needs.{needs}
-use Rattle.utf8.proofs.four_at.Statement.{statement}
-use Rattle.utf8.proofs.four_at.Tie as tie
+use Rattle.utf8_table.proofs.four_at.Statement.{statement}
+use Rattle.utf8_table.proofs.four_at.Tie as tie
 
 shared-slice-read-wide : tie.Need-shared-slice-read-wide
 shared-slice-read-wide c = search needs

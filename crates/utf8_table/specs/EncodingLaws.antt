@@ -9,7 +9,7 @@ use lib.Dec.{leb, ltb}
 use borrow.Author.Tests.{lt-ltb, le-ltb, le-leb, leb-true, not-true}
 use Rattle.bits.specs.Limits.{LAST-POINT, SURROGATE-FIRST, SURROGATE-LAST}
 use Rattle.bits.specs.Tests.{within, scalar, by-test, and-l, and-r, within-yes, within-below, within-above}
-use Rattle.utf8.specs.Encoding.{encode}
+use Rattle.utf8_table.specs.Encoding.{encode}
 
 -- a scalar value lies before the surrogates or after them
 pub scalar-low : (c : ℕ) → c < SURROGATE-FIRST → scalar c ≡ true

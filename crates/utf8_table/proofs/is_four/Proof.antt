@@ -3,9 +3,9 @@ use mathlib.Core.Path.{sym}
 use native.Mathlib.Omega.{arith}
 use lib.ListN.{List·getD-eq-default}
 use borrow.Author.Needs.{needs}
-use Rattle.utf8.specs.ByLead.{leadsFour, cut-four}
-use Rattle.utf8.proofs.is_four.Statement.{statement}
-use Rattle.utf8.proofs.is_four.Tie as tie
+use Rattle.utf8_table.specs.ByLead.{leadsFour, cut-four}
+use Rattle.utf8_table.proofs.is_four.Statement.{statement}
+use Rattle.utf8_table.proofs.is_four.Tie as tie
 
 sub-if1 : tie.Need-sub-if1
 sub-if1 c = search needs

@@ -1,0 +1,90 @@
+// One sequence of UTF-8: whether a well-formed one stands at a place, and its code point, by the first byte (the Unicode Standard, Tables
+// 3-6 and 3-7). The reader in utf8 goes from sequence to sequence.
+use bits::pick;
+ghost use mathlib.Core.Path.{_≡_};
+ghost use Prim.Native.Nat.{_+_, _≤_, _<_};
+ghost use lib.ListN.{length};
+ghost use Rattle.bits.specs.Tests.{within};
+ghost use Rattle.utf8_table.specs.WellFormed.{Wide, byteAt, pointOfTwo, pointOfThree, pointOfFour};
+ghost use Rattle.utf8_table.specs.ByLead.{leadsTwo, leadsThree, leadsFour};
+
+// A byte as a number that can be shifted up.
+pub fn wide(b: u8) -> u32
+    ensures { λ r. ⌜ Wide b r ⌝ }
+{
+    b as u32
+}
+
+// Whether b lies in lo..=hi.
+fn in_range(lo: u32, hi: u32, b: u32) -> bool
+    ensures { λ r. ⌜ r ≡ within lo hi b ⌝ }
+{
+    (lo <= b) & (b <= hi)
+}
+
+// Whether a sequence of two stands at i, where the byte is 80 to DF.
+pub fn is_two(b: &[u8], i: usize) -> bool
+    requires { ⌜ i < length (now b) ⌝ }
+    ensures { λ r. ⌜ r ≡ leadsTwo (byteAt (now (b .entry)) i) (byteAt (now (b .entry)) (i + 1)) ⌝ }
+{
+    if b.len() - i < 2 {
+        return false;
+    }
+    (0xC2 <= wide(b[i])) & in_range(0x80, 0xBF, wide(b[i + 1]))
+}
+
+// Whether a sequence of three stands at i, where the byte is E0 to EF. E0 and ED have narrower bounds for the second byte.
+pub fn is_three(b: &[u8], i: usize) -> bool
+    requires { ⌜ i < length (now b) ⌝ }
+    ensures { λ r. ⌜ r ≡ leadsThree (byteAt (now (b .entry)) i) (byteAt (now (b .entry)) (i + 1)) (byteAt (now (b .entry)) (i + 2)) ⌝ }
+{
+    if b.len() - i < 3 {
+        return false;
+    }
+    let a = wide(b[i]);
+    let lo = pick(a == 0xE0, 0xA0, 0x80);
+    let hi = pick(a == 0xED, 0x9F, 0xBF);
+    in_range(lo, hi, wide(b[i + 1])) & in_range(0x80, 0xBF, wide(b[i + 2]))
+}
+
+// Whether a sequence of four stands at i, where the byte is F0 or more. F0 and F4 have narrower bounds for the second byte.
+pub fn is_four(b: &[u8], i: usize) -> bool
+    requires { ⌜ i < length (now b) ⌝ }
+    ensures { λ r. ⌜ r ≡ leadsFour (byteAt (now (b .entry)) i) (byteAt (now (b .entry)) (i + 1)) (byteAt (now (b .entry)) (i + 2)) (byteAt (now (b .entry)) (i + 3)) ⌝ }
+{
+    if b.len() - i < 4 {
+        return false;
+    }
+    let a = wide(b[i]);
+    let lo = pick(a == 0xF0, 0x90, 0x80);
+    let hi = pick(a == 0xF4, 0x8F, 0xBF);
+    (a <= 0xF4)
+        & in_range(lo, hi, wide(b[i + 1]))
+        & in_range(0x80, 0xBF, wide(b[i + 2]))
+        & in_range(0x80, 0xBF, wide(b[i + 3]))
+}
+
+// The code points of the sequences of two, three and four at i.
+pub fn two_at(b: &[u8], i: usize) -> u32
+    requires { ⌜ i + 2 ≤ length (now b) ⌝ }
+    ensures { λ r. ⌜ r ≡ pointOfTwo (byteAt (now (b .entry)) i) (byteAt (now (b .entry)) (i + 1)) ⌝ }
+{
+    wide(b[i]) % 32 * 64 + wide(b[i + 1]) % 64
+}
+
+pub fn three_at(b: &[u8], i: usize) -> u32
+    requires { ⌜ i + 3 ≤ length (now b) ⌝ }
+    ensures { λ r. ⌜ r ≡ pointOfThree (byteAt (now (b .entry)) i) (byteAt (now (b .entry)) (i + 1)) (byteAt (now (b .entry)) (i + 2)) ⌝ }
+{
+    wide(b[i]) % 16 * 4096 + wide(b[i + 1]) % 64 * 64 + wide(b[i + 2]) % 64
+}
+
+pub fn four_at(b: &[u8], i: usize) -> u32
+    requires { ⌜ i + 4 ≤ length (now b) ⌝ }
+    ensures { λ r. ⌜ r ≡ pointOfFour (byteAt (now (b .entry)) i) (byteAt (now (b .entry)) (i + 1)) (byteAt (now (b .entry)) (i + 2)) (byteAt (now (b .entry)) (i + 3)) ⌝ }
+{
+    wide(b[i]) % 8 * 262144
+        + wide(b[i + 1]) % 64 * 4096
+        + wide(b[i + 2]) % 64 * 64
+        + wide(b[i + 3]) % 64
+}
