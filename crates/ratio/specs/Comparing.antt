@@ -1,6 +1,6 @@
 -- `le` and `lt` of two f32 that have no minus sign, by the fractions that they are: each is the test on the fractions, multiplied out.
 -- Assumes nothing.
-use Prim.Native.Nat.{ℕ, _+_, _*_, _^_, _≤_, _<_}
+use Prim.Native.Nat.{ℕ, _+_, _*_, _≤_, _<_}
 use mathlib.Core.Path.{_≡_, refl, sym, ap, _∙_}
 use mathlib.Core.Bool.{Bool, true, false, not, _&&_, _||_, true≢false}
 use native.Mathlib.Nat.{le-of-lt, le-antisymm, add-comm}

@@ -10,7 +10,7 @@ use native.Mathlib.Omega.{arith}
 use borrow.Author.Tests.{leb-true, ne-eqb}
 use lib.Dec.{leb, eqb, lit<, lit≤}
 use lib.Pow.{pow-pos}
-use lib.Ieee.{Float, binary32, round, ofBits, le, lt}
+use lib.Ieee.{Float, binary32, round, ofBits, le}
 use lib.Ieee.Bits.{is-true}
 use lib.Ieee.Order.{round-mono}
 use Rattle.bits.specs.Tests.{split}

@@ -2,7 +2,7 @@
 -- `near`, `reached` and `missed` are its three inequalities, `sum-plain` says that the score is finite and has no minus sign, and `below`
 -- that a score is below the threshold exactly where it does not reach it.
 -- Assumes nothing.
-use Prim.Native.Nat.{ℕ, zero, suc, _+_, _-_, _*_, _^_, _≤_, _<_}
+use Prim.Native.Nat.{ℕ, zero, suc, _+_, _-_, _*_, _≤_, _<_}
 use mathlib.Core.Path.{_≡_, refl, sym, ap, _∙_, subst}
 use mathlib.Core.Bool.{Bool, true, false, not, cond, true≢false}
 use native.Mathlib.Nat.{mul-le-mul-right, mul-lt-mul-of-pos-right, le-of-mul-le-mul-right, lt-of-mul-lt-mul-right}
@@ -16,7 +16,7 @@ use lib.Ieee.{Float, nan, inf, fin, binary32, fits, le, lt}
 use lib.Ieee.Exact.{HasValue}
 use Rattle.ratio.specs.declared.Fractions.{Fractions}
 use Rattle.ratio.specs.Rounded.{ratios, sum, EachProper}
-use Rattle.ratio.specs.Demand.{ONE, signed, parts, denominators, exact, multiplied, Near, Reached, Missed}
+use Rattle.ratio.specs.Demand.{ONE, signed, denominators, exact, Near, Reached, Missed}
 use Rattle.ratio.specs.Finite.{isFinite, Finite, Plain}
 use Rattle.ratio.specs.FiniteLaws.{plain-of}
 use Rattle.ratio.specs.Parts.{parts-is, Whole, parts-whole}

@@ -1,7 +1,7 @@
 -- One rounding in whole numbers. `Once w v`: w is v, but for one part in 2 ^ 24 of v. `closest-half`: the nearest whole number is off by
 -- half at most. `half-once`: so it is off by one part in 2 ^ 24 where the number is 2 ^ 23 at least. Nothing here is about floats.
 -- Assumes nothing.
-use Prim.Native.Nat.{ℕ, suc, _+_, _*_, _/_, _%_, _^_, _≤_, _<_, compare, Ordering, Ordering·lt, Ordering·eq, Ordering·gt}
+use Prim.Native.Nat.{ℕ, _+_, _*_, _/_, _%_, _^_, _≤_, _<_, compare, Ordering, Ordering·lt, Ordering·eq, Ordering·gt}
 use mathlib.Core.Path.{_≡_, subst}
 use mathlib.Core.Bool.{not}
 use native.Mathlib.Nat.{mul-le-mul-right, le-of-mul-le-mul-right, div-add-mod', mod-lt}

@@ -2,15 +2,15 @@
 -- finite and has no minus sign (`rounded-plain`), that the quotient of two f32 counts is it (`rounded-is`, `rounded-factored`), that 0 over 1 gives +0.0
 -- (`rounded-nothing`), and that num <= k * den gives a ratio of at most k (`rounded-at-most`).
 -- Assumes nothing.
-use Prim.Native.Nat.{ℕ, _+_, _*_, _^_, _≤_, _<_}
+use Prim.Native.Nat.{ℕ, _*_, _^_, _≤_, _<_}
 use mathlib.Core.Path.{_≡_, refl, sym, subst}
-use mathlib.Core.Bool.{Bool, true, false}
+use mathlib.Core.Bool.{true, false}
 use mathlib.Core.Logic.{inl, inr}
 use native.Mathlib.Nat.{lt-of-le-of-lt, mul-le-mul-right, mul-le-mul-left, mul-one, eq-zero-or-pos}
 use native.Mathlib.Omega.{arith}
-use lib.Dec.{T, lit<, lit≤}
+use lib.Dec.{lit<, lit≤}
 use lib.IntN.{pos}
-use lib.Ieee.{Float, binary32, round, mul, div, ofInt, ofBits, le}
+use lib.Ieee.{binary32, round, mul, div, ofInt, ofBits, le}
 use lib.Ieee.Bits.{is-true}
 use lib.Ieee.Exact.{HasValue}
 use lib.Ieee.Order.{round-mono}

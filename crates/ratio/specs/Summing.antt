@@ -8,7 +8,7 @@ use native.Mathlib.Nat.{lt-of-le-of-lt, mul-le-mul-right, mul-le-mul-left, le-of
 use native.Mathlib.Omega.{arith}
 use lib.Dec.{lit<, lit≤}
 use lib.Pow.{pow-pos}
-use lib.Ieee.{Float, binary32, add}
+use lib.Ieee.{Float, binary32}
 use lib.Ieee.Exact.{HasValue}
 use lib.Ieee.Scale.{grid, round-val}
 use Rattle.ratio.specs.declared.Fraction.{Fraction}

@@ -1,0 +1,164 @@
+// Replays a list of fractions and thresholds with the answers of f32 arithmetic (oracle/lists/ratio.py): the quotient rounded once, the
+// five cut-offs, what a cut-off leaves, the sum of eight, and the finite test.
+ghost use Prim.Native.Nat.{_≤_};
+ghost use Rattle.ratio.specs.Fraction.{Small, Proper};
+ghost use Rattle.ratio.specs.Rounded.{EachProper};
+use bits::one;
+use bits::pick;
+use ratio::Fraction;
+use ratio::Fractions;
+use ratio::at_least;
+use ratio::finite::is_finite;
+use ratio::kept;
+use ratio::rounding::ratios;
+use ratio::rounding::rounded;
+use ratio::rounding::sum;
+use replay::next_case;
+use replay::say;
+use replay::word;
+
+// The first word of a case: eight fractions, each with its answers, and the sum; or a threshold.
+const FRACTIONS: u32 = 1;
+
+const THRESHOLD: u32 = 2;
+
+// The words of a fraction: num, den, the ratio's bits, the bits of what is left by the cut-off 3/10, and a bit for each cut-off reached.
+const WORDS: usize = 5;
+
+const EIGHT: usize = 8;
+
+// The bytes of the longest case: its kind, eight fractions and the sum.
+const CASE_BYTES: usize = 168;
+
+const MOST_CASES: u32 = 100000;
+
+// The bounds for which the laws of ratio are stated: MOST-NUM and MOST-DEN of its specs.
+const MOST_NUM: u32 = 0x20_0000;
+
+const MOST_DEN: u32 = 0x2_0002;
+
+// The bits of +infinity, and of the sign.
+const INFINITY_BITS: u32 = 0x7F80_0000;
+
+const SIGN_BIT: u32 = 0x8000_0000;
+
+fn bounded(f: Fraction) -> Fraction
+    ensures { λ r. ⌜ Small r ⌝ }
+{
+    if (f.num <= MOST_NUM) & (f.den <= MOST_DEN) {
+        f
+    } else {
+        Fraction { num: 0, den: 1 }
+    }
+}
+
+// The fraction that stands from the word `at` on; 0 over 1 where it is over 0.
+fn fraction_at(buf: &[u8], at: usize) -> Fraction
+    requires { ⌜ at ≤ 100 ⌝ }
+    ensures { λ r. ⌜ Proper r ⌝ }
+{
+    kept(
+        true,
+        bounded(Fraction {
+            num: word(buf, at),
+            den: word(buf, at + 1),
+        }),
+    )
+}
+
+fn ratio_bits(f: Fraction) -> u32
+    requires { ⌜ Proper f ⌝ }
+{
+    f32::to_bits(rounded(f))
+}
+
+// The cut-offs that f reaches: 3/10, 7/20, 1/10, 17/50 and 1/5, from the lowest bit on.
+fn reached(f: Fraction) -> u32
+    requires { ⌜ Proper f ⌝ }
+{
+    one(at_least(f, 3, 10))
+        + 2 * one(at_least(f, 7, 20))
+        + 4 * one(at_least(f, 1, 10))
+        + 8 * one(at_least(f, 17, 50))
+        + 16 * one(at_least(f, 1, 5))
+}
+
+// Whether the fraction from the word `at` on has the answers that stand behind it.
+fn same_ratio(buf: &[u8], at: usize) -> bool
+    requires { ⌜ at ≤ 100 ⌝ }
+{
+    let f = fraction_at(buf, at);
+    (ratio_bits(f) == word(buf, at + 2))
+        & (ratio_bits(kept(at_least(f, 3, 10), f)) == word(buf, at + 3))
+        & (reached(f) == word(buf, at + 4))
+}
+
+fn fractions_in(buf: &[u8]) -> Fractions
+    ensures { λ r. ⌜ EachProper r ⌝ }
+{
+    Fractions {
+        symbols: fraction_at(buf, 1),
+        accents: fraction_at(buf, 1 + WORDS),
+        unprintable: fraction_at(buf, 1 + 2 * WORDS),
+        ranges: fraction_at(buf, 1 + 3 * WORDS),
+        doubled: fraction_at(buf, 1 + 4 * WORDS),
+        words: fraction_at(buf, 1 + 5 * WORDS),
+        stops: fraction_at(buf, 1 + 6 * WORDS),
+        archaic: fraction_at(buf, 1 + 7 * WORDS),
+    }
+}
+
+fn sum_bits(f: Fractions) -> u32
+    requires { ⌜ EachProper f ⌝ }
+{
+    f32::to_bits(sum(ratios(f)))
+}
+
+fn same_fractions(buf: &[u8]) -> bool {
+    let mut same = sum_bits(fractions_in(buf)) == word(buf, 1 + EIGHT * WORDS);
+    let mut i: usize = 0;
+    while i < EIGHT {
+        same = same & same_ratio(buf, 1 + i * WORDS);
+        i += 1;
+    }
+    same
+}
+
+// The f32 of these bits; a NaN for every NaN's.
+fn float_of(bits: u32) -> f32 {
+    let zero: f32 = 0.0;
+    if bits % SIGN_BIT > INFINITY_BITS {
+        zero / zero
+    } else {
+        f32::from_bits(bits)
+    }
+}
+
+fn same_case(buf: &[u8]) -> bool {
+    let kind = word(buf, 0);
+    if kind == FRACTIONS {
+        same_fractions(buf)
+    } else if kind == THRESHOLD {
+        one(is_finite(float_of(word(buf, 1)))) == word(buf, 2)
+    } else {
+        false
+    }
+}
+
+fn main() {
+    let mut buf = [0u8; CASE_BYTES];
+    let mut cases: u32 = 0;
+    let mut differ: u32 = 0;
+    let mut first: u32 = 0;
+    while cases < MOST_CASES {
+        let n = next_case(&mut buf);
+        if n == 0 {
+            break;
+        }
+        cases += 1;
+        let wrong = !same_case(&buf[..n]);
+        first = pick(wrong & (differ == 0), cases, first);
+        differ += one(wrong);
+    }
+    say(cases, differ, first);
+}
