@@ -1,12 +1,18 @@
 -- The first parts of the two arrays are the definition's lists after i letters (`Matched`).
 -- Assumes nothing.
-use Prim.Native.Nat.{_-_}
+use Prim.Native.Nat.{_-_, _<_}
 use native.Mathlib.Omega.{arith}
 use lib.ListN.{length}
 use borrow.Author.Needs.{needs}
+use Rattle.bits.specs.Limits.{LANGUAGE-LETTERS}
 use Rattle.jaro.specs.Matched.{Matched, matched-start, matched-few, matched-flags, matched-letters, matched-paired, matched-reach, matched-miss, matched-room, matched-hit, matched-end}
 use Rattle.jaro.proofs.matched.Statement.{statement}
 use Rattle.jaro.proofs.matched.Tie as tie
+use Rattle.jaro.proofs.matched.Reads as reads
+use Rattle.jaro.proofs.matched.Lts as lts
+use Rattle.jaro.proofs.out_of_order.Reads as out-of-order-reads
+use Rattle.jaro.proofs.place.Reads as place-reads
+use Rattle.jaro.proofs.window.Reads as window-reads
 
 abbrev Inv-loop : tie.InvT-loop
 Inv-loop layer language n w taken₀ letters₀ m₀ i₀ taken letters m i = Matched layer language taken letters m i
@@ -38,14 +44,27 @@ place-requires c κs = matched-reach _ _ (c .before .before .before .loop .inv) 
 array-write-taken : tie.Need-array-write-taken Inv-loop μ-loop
 array-write-taken c = omega (arith, c .before .before .before .before .before .before .before .before .before .pre .1)
 
+-- where a place was found, there is room for one letter more
+abbrev Found : Type 0
+Found =
+    lts.Then1
+    (window-reads.Asked, window-reads.Learnt, place-reads.Asked, place-reads.Learnt, out-of-order-reads.Asked, out-of-order-reads.Learnt)
+    reads.Pre
+    reads.Post
+    Inv-loop
+    μ-loop
+
+room : (c : Found) → c .before .before .before .before .before .loop .m < LANGUAGE-LETTERS
+room c = matched-room _ _ (c .before .before .before .before .before .loop .inv) (c .before .before .before .before .loop-test .taken) (c .before .before .before .before .before .before .window .ensures) (c .before .place .ensures) (c .if1 .taken) (c .before .before .before .before .before .before .before .before .before .pre .1)
+
 mul-letters : tie.Need-mul-letters Inv-loop μ-loop
-mul-letters c = omega (arith, matched-room _ _ (c .before .before .before .before .before .loop .inv) (c .before .before .before .before .loop-test .taken) (c .before .before .before .before .before .before .window .ensures) (c .before .place .ensures) (c .if1 .taken) (c .before .before .before .before .before .before .before .before .before .pre .1))
+mul-letters c = omega (arith, room c)
 
 array-write-letters : tie.Need-array-write-letters Inv-loop μ-loop
-array-write-letters c = omega (arith, matched-room _ _ (c .before .before .before .before .before .loop .inv) (c .before .before .before .before .loop-test .taken) (c .before .before .before .before .before .before .window .ensures) (c .before .place .ensures) (c .if1 .taken) (c .before .before .before .before .before .before .before .before .before .pre .1))
+array-write-letters c = omega (arith, room c)
 
 add-m : tie.Need-add-m Inv-loop μ-loop
-add-m c = omega (arith, matched-room _ _ (c .before .before .before .before .before .loop .inv) (c .before .before .before .before .loop-test .taken) (c .before .before .before .before .before .before .window .ensures) (c .before .place .ensures) (c .if1 .taken) (c .before .before .before .before .before .before .before .before .before .pre .1))
+add-m c = omega (arith, room c)
 
 add-i : tie.Need-add-i Inv-loop μ-loop
 add-i c = omega (arith, c .before .before .before .before .before .before .before .before .before .pre .0, c .before .before .before .before .loop-test .taken)
