@@ -3,23 +3,25 @@
 -- are stated over a variable L for 2 ^ 1074.
 -- Assumes nothing.
 use Prim.Native.Nat.{ℕ, _+_, _-_, _*_, _^_, _≤_, _<_}
-use mathlib.Core.Path.{_≡_, refl}
+use mathlib.Core.Path.{_≡_, refl, ap, _∙_}
 use mathlib.Core.Logic.{_⊎_, inl, inr, ⊎-elim}
 use mathlib.Core.Bool.{false}
 use mathlib.Core.List.{List}
-use native.Mathlib.Nat.{mul-pos, eq-zero-or-pos}
+use native.Mathlib.Nat.{mul-pos, mul-one, eq-zero-or-pos}
 use native.Mathlib.Omega.{arith}
 use lib.ListN.{length}
-use lib.Dec.{lit<}
+use lib.Dec.{lit<, lit≤}
 use lib.IntN.{pos}
 use lib.Pow.{pow-pos}
 use lib.Ieee.{Float, binary64, round, add, div, ofInt}
+use lib.Ieee.Back.{round-whole}
+use lib.Ieee.Exact.{HasValue}
 use borrow.Author.Tests.{eq-eqb, ne-eqb}
 use Rattle.bits.specs.Limits.{LONGEST-RANKED, LANGUAGE-LETTERS}
+use Rattle.ratio.specs.Operations.{add-at, div-at}
 use Rattle.narrow.specs.Nearest.{NOUGHT}
 use Rattle.jaro.specs.Jaro.{matches, transpositions, over, measure, jaro}
 use Rattle.jaro.specs.JaroLaws.{matches-layer, matches-language, transpositions-half}
-use Rattle.jaro.specs.Values.{div-at, add-at, count-value, ratio-is}
 use Rattle.jaro.specs.Held.{Exact, Held, exact, held}
 
 -- numerators over powers of two, up to 256
@@ -47,9 +49,19 @@ third-least L x h = omega arith
 third-most : (L x : ℕ) → x * 1 ≤ 3 * L → x * 1 * 1 ≤ 1 * (3 * L)
 third-most L x h = omega arith
 
+-- a count, and a ratio of two counts: the fraction, rounded once
+count : (n : ℕ) → n ≤ 2 ^ 53 → HasValue (ofInt binary64 (pos n)) false n 1
+unfolding ofInt
+count n h = round-whole binary64 false n h
+
+over-is : (p q : ℕ) → p ≤ LONGEST-RANKED → 0 < q → q ≤ LONGEST-RANKED → over p q ≡ round binary64 false p q
+over-is p q h Q k =
+    div-at binary64 p 1 q 1 (lit< tt) (lit< tt) (ofInt binary64 (pos p)) (ofInt binary64 (pos q)) Q (count p (omega arith)) (count q (omega arith))
+    ∙ ap (λ (z : ℕ). round binary64 false z (q * 1)) (mul-one p) ∙ ap (λ (z : ℕ). round binary64 false p z) (mul-one q)
+
 sum-at : {x y : Float} {a c b d a' c' b' d' : ℕ} (g : Held binary64 x a c b d) (k : Held binary64 y a' c' b' d')
     → add binary64 x y ≡ round binary64 false (g .parts + k .parts) (2 ^ 1074)
-sum-at {x} {y} g k = add-at binary64 x y (g .parts) (k .parts) (2 ^ 1074) (pow-pos 1074) (g .value) (k .value)
+sum-at {x} {y} g k = add-at binary64 (g .parts) (k .parts) (2 ^ 1074) (pow-pos 1074) x y (g .value) (k .value)
 
 module _ {x y z : Float} (X : Held binary64 x 1 8192 1 1) (Y : Held binary64 y 1 256 1 1) (Z : Held binary64 z 128 256 1 1) where
   one : Held binary64 (add binary64 x y) 1 256 2 1
@@ -66,29 +78,26 @@ module _ {x y z : Float} (X : Held binary64 x 1 8192 1 1) (Y : Held binary64 y 1
 
   third : Held binary64 (div binary64 (add binary64 (add binary64 x y) z) (ofInt binary64 (pos 3))) 43 256 1 1
   third =
-      let e = div-at binary64 (add binary64 (add binary64 x y) z) (ofInt binary64 (pos 3)) (two .parts) (2 ^ 1074) 3 1
-      (pow-pos 1074) (lit< tt) (lit< tt) (two .value) (count-value 3 (lit< tt)) in
+      let e = div-at binary64 (two .parts) (2 ^ 1074) 3 1 (pow-pos 1074) (lit< tt) (add binary64 (add binary64 x y) z) (ofInt binary64 (pos 3)) (lit< tt)
+      (two .value) (count 3 (lit≤ tt)) in
       rw e
       (held binary64 (two .parts * 1) (3 * 2 ^ 1074) (mul-pos {m = 3} (lit< tt) (pow-pos 1074)) (over-256 43 (lit< tt) (lit< tt)) (over-1 1 (lit< tt) (lit< tt))
       (third-least (2 ^ 1074) (two .parts) (two .least)) (third-most (2 ^ 1074) (two .parts) (two .most)))
 
 module _ (m t a b : ℕ) (M : 0 < m) (A : m ≤ a) (B : m ≤ b) (H : t * 2 ≤ m) (L : a ≤ LONGEST-RANKED) (K : b ≤ LANGUAGE-LETTERS) where
-  small : (n : ℕ) → n ≤ LONGEST-RANKED → n < 2 ^ 53
-  small n h = omega arith
-
   first-term : Held binary64 (over m a) 1 8192 1 1
   first-term =
-      rw (ratio-is m a (small m (omega arith)) (omega arith) (small a L))
+      rw (over-is m a (omega arith) (omega arith) L)
       (held binary64 m a (omega arith) (exact binary64 1 13 1061 (lit< tt) (lit< tt) refl) (over-1 1 (lit< tt) (lit< tt)) (omega arith) (omega arith))
 
   second-term : Held binary64 (over m b) 1 256 1 1
   second-term =
-      rw (ratio-is m b (small m (omega arith)) (omega arith) (small b (omega arith)))
+      rw (over-is m b (omega arith) (omega arith) (omega arith))
       (held binary64 m b (omega arith) (over-256 1 (lit< tt) (lit< tt)) (over-1 1 (lit< tt) (lit< tt)) (omega arith) (omega arith))
 
   third-term : Held binary64 (over (m - t) m) 128 256 1 1
   third-term =
-      rw (ratio-is (m - t) m (small (m - t) (omega arith)) M (small m (omega arith)))
+      rw (over-is (m - t) m (omega arith) M (omega arith))
       (held binary64 (m - t) m M (over-256 128 (lit< tt) (lit< tt)) (over-1 1 (lit< tt) (lit< tt)) (omega arith) (omega arith))
 
   measured : Held binary64 (measure m t a b) 43 256 1 1

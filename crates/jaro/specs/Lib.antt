@@ -1,6 +1,5 @@
 pub mod Jaro
 pub mod Similarity
-pub mod Values
 pub mod Held
 pub mod Bounds
 pub mod SimilarityLaws
