@@ -1,0 +1,11 @@
+pub mod Jaro
+pub mod Similarity
+pub mod Held
+pub mod Bounds
+pub mod SimilarityLaws
+pub mod Among
+pub mod Place
+pub mod MatchingLaws
+pub mod JaroLaws
+pub mod OutOfOrder
+pub mod Matched

@@ -1,0 +1,27 @@
+-- Below a half the number stays, above a half it is the next one, and at a half the even one of the two: the cases of `nearest`.
+-- Assumes nothing.
+use Rattle.narrow.specs.Halves.{half-less, half-more, half-even, half-odd}
+use borrow.Author.Needs.{needs}
+use Rattle.narrow.proofs.settled.Statement.{statement}
+use Rattle.narrow.proofs.settled.Tie as tie
+
+returns : tie.Need-returns
+returns c = half-less _ _ (c .if1 .taken)
+
+add-result : tie.Need-add-result
+add-result c = search needs
+
+returns-2 : tie.Need-returns-2
+returns-2 c = half-more _ _ (c .if2 .taken)
+
+returns-3 : tie.Need-returns-3
+returns-3 c = half-even _ _ (c .before .before .if1 .left) (c .before .if2 .left) (c .if3 .taken)
+
+add-result-2 : tie.Need-add-result-2
+add-result-2 c = search needs
+
+returns-4 : tie.Need-returns-4
+returns-4 c = half-odd _ _ (c .before .before .if1 .left) (c .before .if2 .left) (c .if3 .left)
+
+pub settled-spec : {M : Type 1} → statement M
+settled-spec = tie.close (tie.spec returns add-result returns-2 returns-3 add-result-2 returns-4)
