@@ -1,4 +1,21 @@
-// What a code point is: its class, found in the built-in table or in a lent one.
+// What a code point is: its class, found in the built-in table or in a lent one; the check of a lent class table; and the pair table.
+ghost use mathlib.Core.Path.{_≡_};
+ghost use mathlib.Core.Bool.{true};
+ghost use Prim.Native.Nat.{_≤_, _<_};
+ghost use lib.Dec.{eqb};
+ghost use lib.ListN.{length};
+ghost use Rattle.bits.specs.Limits.{BUILTIN-END, LAST-RANGE, PAIR-BYTES};
+ghost use Rattle.records.specs.Records.{goodTable};
+ghost use Rattle.classes.specs.Lookup.{orSelf, builtinClass, lentClass, classOf};
+ghost use Rattle.classes.specs.Check.{checked, refusedAt};
+ghost use Rattle.classes.specs.Pairs.{suspicious};
+use bits::Refusal;
+use bits::limits::BUILTIN_END;
+use bits::limits::CLASS_RECORD;
+use bits::limits::MOST_CLASSES;
+use bits::limits::PAIR_BYTES;
+use bits::limits::RANGES;
+use bits::refusals::BAD_CLASSES;
 
 // A code point and what the tables say of it. `base` is the letter without accent and `lower` the lower-case letter, the character itself
 // where a table has 0. (md/structs.rs: MessDetectorChar, its character, flags and unicode_range.)
@@ -8,4 +25,111 @@ pub struct Class {
     pub range: u32,
     pub base: u32,
     pub lower: u32,
+}
+
+// What the lookup finds.
+pub enum Found {
+    At(Class),
+    Nothing,
+}
+
+// What the check of a class table says: good, with the number of records, or refused.
+pub enum Checked {
+    Good(u32),
+    Refused(Refusal),
+}
+
+// 0 in a table means the character itself.
+fn or_self(n: u32, point: u32) -> u32
+    ensures { λ r. ⌜ r ≡ orSelf n point ⌝ }
+{
+    if n == 0 { point } else { n }
+}
+
+fn builtin_class(point: u32) -> Class
+    requires { ⌜ point < BUILTIN-END ⌝ }
+    ensures { λ r. ⌜ r ≡ builtinClass point ⌝ }
+{
+    let e = builtin::entry_at(point);
+    Class {
+        point,
+        flags: e.flags,
+        range: e.range,
+        base: or_self(e.base, point),
+        lower: or_self(e.lower, point),
+    }
+}
+
+// The class that the lent records give a code point.
+fn lent_class(point: u32, classes: &[u8]) -> Found
+    requires { ⌜ goodTable (now classes) ≡ true ⌝ }
+    ensures { λ r. ⌜ r ≡ lentClass (now (classes .entry)) point ⌝ }
+{
+    let i = records::search::find(classes, point);
+    if i < classes.len() / CLASS_RECORD {
+        let r = records::record_at(classes, i);
+        return Found::At(Class {
+            point,
+            flags: r.flags,
+            range: r.range as u32,
+            base: or_self(r.base, point),
+            lower: or_self(r.lower, point),
+        });
+    }
+    Found::Nothing
+}
+
+// The class of a code point: below BUILTIN_END the built-in table's, past it that of the lent record that holds it. The test of the code point
+// stands here, apart from the search, so that a caller's loop has it in line.
+pub fn look_up(point: u32, classes: &[u8]) -> Found
+    requires { ⌜ goodTable (now classes) ≡ true ⌝ }
+    ensures { λ r. ⌜ r ≡ classOf (now (classes .entry)) point ⌝ }
+{
+    if point < BUILTIN_END {
+        return Found::At(builtin_class(point));
+    }
+    lent_class(point, classes)
+}
+
+fn refused(place: u32) -> Checked
+    ensures { λ r. ⌜ r ≡ refusedAt place ⌝ }
+{
+    Checked::Refused(Refusal {
+        number: BAD_CLASSES,
+        place,
+    })
+}
+
+// Whether a class table is good. Refusal 5 otherwise: a length or a number of records that is not allowed at 0, then the first bad record.
+pub fn check_classes(classes: &[u8]) -> Checked
+    ensures { λ r. ⌜ r ≡ checked (now (classes .entry)) ⌝ }
+{
+    let n = classes.len() / CLASS_RECORD;
+    if classes.len() % CLASS_RECORD != 0 {
+        return refused(0);
+    }
+    if n > MOST_CLASSES {
+        return refused(0);
+    }
+    if !records::none_bad(classes) {
+        return refused(records::first_bad(classes) as u32);
+    }
+    Checked::Good(n as u32)
+}
+
+// Whether a pair table has its size.
+pub fn pairs_fit(pairs: &[u8]) -> bool
+    ensures { λ r. ⌜ r ≡ eqb (length (now (pairs .entry))) PAIR-BYTES ⌝ }
+{
+    pairs.len() == PAIR_BYTES
+}
+
+// Whether range b after range a is suspicious.
+pub fn is_suspicious(pairs: &[u8], a: u32, b: u32) -> bool
+    requires { ⌜ (length (now pairs) ≡ PAIR-BYTES) × (a ≤ LAST-RANGE) × (b ≤ LAST-RANGE) ⌝ }
+    ensures { λ r. ⌜ r ≡ suspicious (now (pairs .entry)) a b ⌝ }
+{
+    let bit = RANGES * a + b;
+    let byte = pairs[(bit / 8) as usize];
+    (byte >> (bit % 8)) % 2 == 1
 }

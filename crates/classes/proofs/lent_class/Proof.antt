@@ -1,0 +1,42 @@
+-- The search's answer is the record that holds the code point, or the number of records.
+-- Assumes nothing.
+use mathlib.Core.Path.{sym}
+use Rattle.classes.specs.Lookup.{recordClass}
+use Rattle.classes.specs.LookupLaws.{lent-held, lent-none}
+use borrow.Author.Needs.{needs}
+use Rattle.classes.proofs.lent_class.Statement.{statement}
+use Rattle.classes.proofs.lent_class.Tie as tie
+
+find-requires : tie.Need-find-requires
+find-requires c κs = search needs
+
+record-at-requires : tie.Need-record-at-requires
+record-at-requires c κs = search needs
+
+cast-t8 : tie.Need-cast-t8
+cast-t8 c = search needs
+
+or-self-requires : tie.Need-or-self-requires
+or-self-requires c κs = search needs
+
+or-self-requires-2 : tie.Need-or-self-requires-2
+or-self-requires-2 c κs = search needs
+
+returns : tie.Need-returns
+unfolding recordClass
+returns c = rw (c .or-self2 .ensures, c .before .or-self .ensures, c .before .before .before .record-at .ensures, c .before .before .before .before .before .find .ensures) (sym (lent-held _ _ (rw (c .before .before .before .before .before .find .ensures) at (c .before .before .before .before .if1 .taken))))
+
+returns-2 : tie.Need-returns-2
+returns-2 c = rw (lent-none _ _ (rw (c .before .find .ensures) at (c .if1 .left)))
+
+pub lent-class-spec : {M : Type 1} → statement M
+lent-class-spec =
+    tie.close
+    (tie.spec
+    find-requires
+    record-at-requires
+    cast-t8
+    or-self-requires
+    or-self-requires-2
+    returns
+    returns-2)

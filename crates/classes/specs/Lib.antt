@@ -1,0 +1,5 @@
+pub mod Lookup
+pub mod LookupLaws
+pub mod Check
+pub mod CheckLaws
+pub mod Pairs

@@ -1,0 +1,4 @@
+pub mod LittleEndian
+pub mod Records
+pub mod RecordsLaws
+pub mod InOrder
