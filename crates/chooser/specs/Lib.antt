@@ -1,0 +1,4 @@
+pub mod Cut
+pub mod CutLaws
+pub mod Choose
+pub mod ChooseLaws

@@ -1,0 +1,146 @@
+-- The invariant: the state is that after i characters, and both the stop and the first unclassed character are still to be found from i on. Assumes nothing.
+use Prim.Native.Nat.{_-_}
+use mathlib.Core.Path.{sym, _∙_}
+use native.Mathlib.Omega.{arith}
+use Rattle.md.specs.Going.{Going, going-start, going-room, going-countable, going-range, going-missing, fed-countable, going-on, going-stopped, going-ended}
+use Rattle.md.specs.ScanLaws.{class-range}
+use Rattle.md.proofs.scan.scan_text.Statement.{statement}
+use Rattle.md.proofs.scan.scan_text.Tie as tie
+
+abbrev Inv-loop : tie.InvT-loop
+Inv-loop text limit classes pairs n s₀ i₀ s i = Going classes pairs text limit n s i
+
+abbrev μ-loop : tie.MeasureT-loop
+μ-loop text limit classes pairs n s₀ i₀ s i = n - i
+
+add-n : tie.Need-add-n Inv-loop μ-loop
+add-n c = omega arith
+
+start-requires : tie.Need-start-requires Inv-loop μ-loop
+start-requires c κs = tt
+
+loop-holds : tie.Need-loop-holds Inv-loop μ-loop
+loop-holds c = going-start _ _ _ _ _ (c .start .ensures)
+
+class-at-requires : tie.Need-class-at-requires Inv-loop μ-loop
+class-at-requires c κs = c .before .before .before .before .before .before .pre .good
+
+enum-known-c : tie.Need-enum-known-c Inv-loop μ-loop
+enum-known-c c = c .match .keys1
+
+enum-told : tie.Need-enum-told Inv-loop μ-loop
+enum-told c = c .match .keys2
+
+cast-refuse : tie.Need-cast-refuse Inv-loop μ-loop
+cast-refuse c = omega arith
+
+refuse-requires : tie.Need-refuse-requires Inv-loop μ-loop
+refuse-requires c κs = tt
+
+returns : tie.Need-returns Inv-loop μ-loop
+returns c =
+    let turn = c .before .before .before .before in
+    c .refuse .ensures
+    ∙ going-missing _ _ _ _ (turn .before .loop .inv) (turn .loop-test .taken)
+    (sym (c .before .before .before .class-at .ensures) ∙ c .before .enum-told .given .1)
+
+fed-requires : tie.Need-fed-requires Inv-loop μ-loop
+fed-requires c κs =
+    let turn = c .before .before .before .before in
+    let entry = turn .before .before .before .before .before .before in
+    let going = turn .before .loop .inv in (
+      going-room _ _ _ _ going (omega arith),
+      entry .pre .fits,
+      going-range _ _ _ _ going (entry .pre .good),
+      class-range _ _ (entry .pre .good) _ _ (sym (c .before .before .before .class-at .ensures) ∙ c .before .c .given .1),
+    )
+
+is-over-requires : tie.Need-is-over-requires Inv-loop μ-loop
+is-over-requires c κs =
+    let turn = c .before .before .before .before .before in
+    let entry = turn .before .before .before .before .before .before in
+    fed-countable _ _ _ _ (turn .before .loop .inv) _ _ (turn .loop-test .taken)
+    (sym (c .before .before .before .before .class-at .ensures) ∙ c .before .before .c .given .1)
+    (c .fed .ensures)
+    (omega (arith, entry .pre .short))
+
+stopped-after-requires : tie.Need-stopped-after-requires Inv-loop μ-loop
+stopped-after-requires c κs =
+    let fed = c .before .before in
+    let turn = fed .before .before .before .before .before in
+    let entry = turn .before .before .before .before .before .before in (
+      entry .pre .good,
+      entry .pre .short,
+      turn .loop-test .taken,
+      fed-countable _ _ _ _ (turn .before .loop .inv) _ _ (turn .loop-test .taken)
+          (sym (fed .before .before .before .before .class-at .ensures) ∙ fed .before .before .c .given .1)
+          (fed .fed .ensures)
+          (omega (arith, entry .pre .short)),
+    )
+
+returns-2 : tie.Need-returns-2 Inv-loop μ-loop
+returns-2 c =
+    let fed = c .before .before .before in
+    let turn = fed .before .before .before .before .before in
+    c .stopped-after .ensures
+    ∙ going-stopped _ _ _ _ (turn .before .loop .inv) _ _ (turn .loop-test .taken)
+    (sym (fed .before .before .before .before .class-at .ensures) ∙ fed .before .before .c .given .1)
+    (fed .fed .ensures)
+    _
+    (c .before .before .is-over .ensures)
+    (c .before .if1 .taken)
+
+add-i : tie.Need-add-i Inv-loop μ-loop
+add-i c =
+    let fed = c .before .before in
+    let turn = fed .before .before .before .before .before in
+    omega (arith, turn .loop-test .taken, turn .before .before .before .before .before .before .pre .short)
+
+loop-less : tie.Need-loop-less Inv-loop μ-loop
+loop-less c = omega arith
+
+loop-again : tie.Need-loop-again Inv-loop μ-loop
+loop-again c =
+    let fed = c .before .before in
+    let turn = fed .before .before .before .before .before in
+    going-on _ _ _ _ (turn .before .loop .inv) _ _ (turn .loop-test .taken)
+    (sym (fed .before .before .before .before .class-at .ensures) ∙ fed .before .before .c .given .1)
+    (fed .fed .ensures)
+    _
+    (c .before .is-over .ensures)
+    (c .if1 .left)
+
+cast-scored : tie.Need-cast-scored Inv-loop μ-loop
+cast-scored c = omega arith
+
+scored-requires : tie.Need-scored-requires Inv-loop μ-loop
+scored-requires c κs = going-countable _ _ _ _ (c .before .loop .inv) (omega arith)
+
+returns-3 : tie.Need-returns-3 Inv-loop μ-loop
+returns-3 c = c .scored .ensures ∙ going-ended _ _ _ _ (c .before .before .loop .inv) (c .before .loop-test .left)
+
+pub scan-text-spec : {M : Type 1} → statement M
+scan-text-spec =
+    tie.close
+    (tie.spec
+    Inv-loop
+    μ-loop
+    add-n
+    start-requires
+    loop-holds
+    class-at-requires
+    enum-known-c
+    enum-told
+    cast-refuse
+    refuse-requires
+    returns
+    fed-requires
+    is-over-requires
+    stopped-after-requires
+    returns-2
+    add-i
+    loop-less
+    loop-again
+    cast-scored
+    scored-requires
+    returns-3)

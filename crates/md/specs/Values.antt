@@ -1,0 +1,40 @@
+-- 01's number and values for each answer of scoring: "When an answer is an enum, the promises use a definition that gives this paper's number
+-- and values for each case of the enum." An accepted text has number 0 and place 0 ("A place not named is 0"); "Any refusal gives +0.0, false
+-- and counts of 0".
+-- Assumes nothing.
+use Prim.Native.Nat.{ℕ}
+use mathlib.Core.Bool.{Bool, false}
+use lib.Ieee.{Float, ofBits, binary32}
+use Rattle.bits.specs.Refusals.{ACCEPTED}
+use Rattle.ratio.specs.declared.Ratios.{Ratios}
+use Rattle.md.specs.declared.Scored.{Scored}
+use Rattle.md.specs.declared.Scored.the-variants.{Score, Refused}
+
+pub record Values : Type 0 where
+  pub number : ℕ
+  pub place : ℕ
+  pub ratios : Ratios
+  pub sum : Float
+  pub fed : ℕ
+  pub stopped : Bool
+
+-- +0.0
+abbrev pub ZERO : Float
+ZERO = ofBits binary32 0
+
+abbrev pub noRatios : Ratios
+noRatios =
+    record {
+      symbols = ZERO;
+      accents = ZERO;
+      unprintable = ZERO;
+      ranges = ZERO;
+      doubled = ZERO;
+      words = ZERO;
+      stops = ZERO;
+      archaic = ZERO;
+    }
+
+unfoldable pub values : Scored → Values
+values (Score s) = record { number = ACCEPTED; place = 0; ratios = s .ratios; sum = s .sum; fed = s .fed; stopped = s .stopped }
+values (Refused r) = record { number = r .number; place = r .place; ratios = noRatios; sum = ZERO; fed = 0; stopped = false }

@@ -1,0 +1,131 @@
+// The scan over checked tables: each character is classed once and fed to the eight detectors, until a checkpoint's sum reaches the limit.
+ghost use mathlib.Core.Path.{_≡_};
+ghost use mathlib.Core.Bool.{true, _&&_};
+ghost use Prim.Native.Nat.{_+_, _≤_, _<_};
+ghost use lib.ListN.{length};
+ghost use Rattle.bits.specs.First.{firstFrom};
+ghost use Rattle.bits.specs.Limits.{LONGEST-TEXT, LAST-RANGE, PAIR-BYTES};
+ghost use Rattle.records.specs.Records.{goodTable};
+ghost use Rattle.plugins.specs.Detectors as detectors;
+ghost use Rattle.md.specs.Text.{checkpoint, count};
+ghost use Rattle.md.specs.Scan as scans;
+ghost use Rattle.md.specs.Going as going;
+use crate::Limit;
+use crate::Score;
+use crate::Scored;
+use crate::refuse;
+use crate::text::at_checkpoint;
+use crate::text::char_at;
+use bits::refusals::UNCLASSED;
+use classes::Class;
+use classes::Found;
+use plugins::Detectors;
+use ratio::rounding;
+
+// What the lookup finds for the character at i.
+fn class_at(text: &[u32], i: usize, classes: &[u8]) -> Found
+    requires { ⌜ goodTable (now classes) ≡ true ⌝ }
+    ensures { λ r. ⌜ r ≡ scans.classAt (now (classes .entry)) (now (text .entry)) i ⌝ }
+{
+    classes::look_up(char_at(text, i), classes)
+}
+
+// One character, fed to the eight, with the pair table's bit for its range after the last one.
+fn fed(s: Detectors, c: Class, pairs: &[u8]) -> Detectors
+    requires { ⌜ detectors.Room s × (length (now pairs) ≡ PAIR-BYTES) × (detectors.lastRange s ≤ LAST-RANGE) × (c .range ≤ LAST-RANGE) ⌝ }
+    ensures { λ r. ⌜ r ≡ scans.fed (now (pairs .entry)) s c ⌝ }
+{
+    let suspicious = classes::is_suspicious(pairs, s.last_range(), c.range);
+    s.feed(c, suspicious)
+}
+
+fn sum_of(s: Detectors) -> f32
+    requires { ⌜ scans.Countable s ⌝ }
+    ensures { λ r. ⌜ r ≡ scans.sumOf s ⌝ }
+{
+    rounding::sum(s.ratios())
+}
+
+// Whether a sum makes the scan stop.
+fn reaches(limit: Limit, sum: f32) -> bool
+    ensures { λ r. ⌜ r ≡ scans.reaches limit sum ⌝ }
+{
+    match limit {
+        Limit::Threshold(t) => t <= sum,
+        Limit::Never => false,
+    }
+}
+
+// Whether the scan stops after the character at i, in a text of n characters.
+fn is_over(s: Detectors, n: usize, i: usize, limit: Limit) -> bool
+    requires { ⌜ scans.Countable s ⌝ }
+    ensures { λ r. ⌜ r ≡ (checkpoint n i && scans.reaches limit (scans.sumOf s)) ⌝ }
+{
+    if at_checkpoint(n, i) {
+        return reaches(limit, sum_of(s));
+    }
+    false
+}
+
+// The answer after `fed` characters.
+fn scored(s: Detectors, fed: u32, stopped: bool) -> Scored
+    requires { ⌜ scans.Countable s ⌝ }
+    ensures { λ r. ⌜ r ≡ scans.scored s fed stopped ⌝ }
+{
+    let ratios = s.ratios();
+    Scored::Score(Score {
+        ratios: ratios,
+        sum: rounding::sum(ratios),
+        fed: fed,
+        stopped: stopped,
+    })
+}
+
+// The first index from `from` on whose character has no class, or the number of characters, the newline counted.
+fn unclassed_from(text: &[u32], from: usize, classes: &[u8]) -> usize
+    requires { ⌜ (goodTable (now classes) ≡ true) × (length (now text) ≤ LONGEST-TEXT) × (from ≤ count (now text)) ⌝ }
+    ensures { λ r. ⌜ r ≡ firstFrom (scans.unclassed (now (classes .entry)) (now (text .entry))) (count (now (text .entry))) from ⌝ }
+{
+    let n = text.len() + 1;
+    let mut i = from;
+    while i < n {
+        let Found::At(_) = class_at(text, i, classes) else {
+            return i;
+        };
+        i += 1;
+    }
+    i
+}
+
+// The answer of a scan that stops after the character at i. The whole text is classed, past the stop too.
+fn stopped_after(s: Detectors, text: &[u32], i: usize, classes: &[u8]) -> Scored
+    requires { ⌜ (goodTable (now classes) ≡ true) × (length (now text) ≤ LONGEST-TEXT) × (i < count (now text)) × scans.Countable s ⌝ }
+    ensures { λ r. ⌜ r ≡ going.stoppedAfter (now (classes .entry)) (now (text .entry)) s i ⌝ }
+{
+    let bad = unclassed_from(text, i + 1, classes);
+    if bad <= text.len() {
+        return refuse(UNCLASSED, bad as u32);
+    }
+    scored(s, (i + 1) as u32, true)
+}
+
+// The scan goes on only where the lookup found a class.
+pub fn scan_text(text: &[u32], limit: Limit, classes: &[u8], pairs: &[u8]) -> Scored
+    requires { ⌜ scans.Ready (now classes) (now pairs) (now text) ⌝ }
+    ensures { λ r. ⌜ r ≡ scans.scan (now (classes .entry)) (now (pairs .entry)) (now (text .entry)) limit ⌝ }
+{
+    let n = text.len() + 1;
+    let mut s = Detectors::start();
+    let mut i = 0;
+    while i < n {
+        let Found::At(c) = class_at(text, i, classes) else {
+            return refuse(UNCLASSED, i as u32);
+        };
+        s = fed(s, c, pairs);
+        if is_over(s, text.len(), i, limit) {
+            return stopped_after(s, text, i, classes);
+        }
+        i += 1;
+    }
+    scored(s, n as u32, false)
+}

@@ -1,0 +1,37 @@
+// The characters that a scan feeds, and its checkpoints.
+ghost use mathlib.Core.Path.{_≡_};
+ghost use lib.ListN.{length};
+ghost use Rattle.md.specs.Text.{charAt, checkpoint};
+use bits::limits::NEWLINE;
+
+// Up to this many characters SHORT_PERIOD is used, then up to MIDDLE_LENGTH MIDDLE_PERIOD, else LONG_PERIOD.
+const SHORT_LENGTH: usize = 510;
+
+const MIDDLE_LENGTH: usize = 1023;
+
+const SHORT_PERIOD: usize = 32;
+
+const MIDDLE_PERIOD: usize = 64;
+
+const LONG_PERIOD: usize = 128;
+
+// The character at i; past the end of the text stands the newline.
+pub fn char_at(text: &[u32], i: usize) -> u32
+    ensures { λ r. ⌜ r ≡ charAt (now (text .entry)) i ⌝ }
+{
+    if i < text.len() { text[i] } else { NEWLINE }
+}
+
+// Whether the sum is compared after the character at i, in a text of n characters. Each period stands as a constant, so that no division
+// is left in the scan's loop.
+pub fn at_checkpoint(n: usize, i: usize) -> bool
+    ensures { λ r. ⌜ r ≡ checkpoint n i ⌝ }
+{
+    if n <= SHORT_LENGTH {
+        return i % SHORT_PERIOD == SHORT_PERIOD - 1;
+    }
+    if n <= MIDDLE_LENGTH {
+        return i % MIDDLE_PERIOD == MIDDLE_PERIOD - 1;
+    }
+    i % LONG_PERIOD == LONG_PERIOD - 1
+}
