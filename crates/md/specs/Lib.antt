@@ -7,3 +7,4 @@ pub mod MessRatioLaws
 pub mod Accepted
 pub mod DemandThree
 pub mod Values
+pub mod Plain
