@@ -34,4 +34,5 @@ fn main() {
         at += 1 + n;
     }
     println!("{cases} cases, {differ} differ");
+    std::process::exit((differ != 0) as i32);
 }

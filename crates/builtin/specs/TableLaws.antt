@@ -1,5 +1,5 @@
--- The built-in table's rule, proved once over the whole table by a test that antt computes (`tested`), and what it says at each entry
--- (`entry-lawful`, of which the record `Lawful` lists the parts).
+-- The built-in table meets its rule (`entry-lawful`): proved once over the whole table, by a test of each list that antt computes at all of
+-- its entries. And what follows from it for callers.
 -- Assumes nothing.
 use Prim.Native.Nat.{ℕ, _+_, _≤_, _<_}
 use mathlib.Core.Bool.{Bool, true, false, not, _&&_, _||_}
@@ -14,37 +14,63 @@ use Rattle.bits.specs.Flags.{has, WHITESPACE, SEPARATOR, ASCII, ASCII-ALPHABETI
 use Rattle.bits.specs.FlagRule.{flagRule, casesRule, kindsRule, whiteRule, scriptsRule}
 use Rattle.bits.specs.Numbers.{bump, bump-small}
 use Rattle.bits.specs.Tests.{implies, same, scalar, and-l, and-r, or-l, same-true, implies-true}
-use Rattle.builtin.specs.declared.Entry.{Entry}
 use Rattle.builtin.specs.Words.{flagWords, rangeNumbers, bases, lowers}
 use Rattle.builtin.specs.Table.{entryAt}
-use Rattle.builtin.specs.TableRule.{isAscii, isAsciiLetter, isAsciiGraphic, isAsciiDigit, CONTROL-CHARACTERS, BASIC-LATIN, LATIN-1-SUPPLEMENT, LATIN-EXTENDED-A, LATIN-EXTENDED-B, asciiRule, rangeOf, scalarRule, baseRule, entryRule}
+use Rattle.builtin.specs.TableRule.{isAscii, isAsciiLetter, isAsciiGraphic, isAsciiDigit, CONTROL-CHARACTERS, BASIC-LATIN, LATIN-1-SUPPLEMENT, LATIN-EXTENDED-A, LATIN-EXTENDED-B, rangeOf, Lawful}
 
-abbrev ruleAt : ℕ → ℕ → Bool
-ruleAt p f = entryRule p (entryAt p)
+-- the rule as a test of each list: of the code point p and the number that the list has for it
+unfoldable asciiTest : ℕ → ℕ → Bool
+asciiTest p f =
+    same (has f ASCII) (isAscii p)
+    && same (has f ASCII-ALPHABETIC) (isAsciiLetter p)
+    && same (has f ASCII-GRAPHIC) (isAsciiGraphic p)
+    && same (has f ASCII-DIGIT) (isAsciiDigit p)
+    && implies (isAsciiLetter p) (has f LATIN && not (has f ACCENTUATED))
 
--- the table has 592 entries
-pub words-length : length flagWords ≡ BUILTIN-END
+unfoldable flagsTest : ℕ → ℕ → Bool
+flagsTest p f = flagRule f && asciiTest p f
+
+unfoldable rangeTest : ℕ → ℕ → Bool
+rangeTest p r = eqb r (rangeOf p)
+
+unfoldable baseTest : ℕ → ℕ → Bool
+baseTest p b = scalar b && (eqb b 0 || has (getD flagWords p 0) ACCENTUATED)
+
+unfoldable lowerTest : ℕ → ℕ → Bool
+lowerTest p l = scalar l
+
+-- each list has 592 entries, and its test is computed at all of them
+flags-length : length flagWords ≡ BUILTIN-END
 unfolding flagWords
-words-length = refl
+flags-length = refl
 
--- the test, computed at all of them
-tested : (p : ℕ) → p < length flagWords → T (ruleAt p (getD flagWords p 0))
-unfolding entryAt entryRule flagRule casesRule kindsRule whiteRule scriptsRule asciiRule rangeOf scalarRule baseRule has scalar flagWords rangeNumbers bases lowers
-tested = at ruleAt flagWords tt
+flags-tested : (p : ℕ) → p < length flagWords → T (flagsTest p (getD flagWords p 0))
+unfolding flagsTest asciiTest flagRule casesRule kindsRule whiteRule scriptsRule has flagWords
+flags-tested = at flagsTest flagWords tt
 
--- what the rule says of an entry
-pub record Lawful (p : ℕ) (e : Entry) : Type 0 where
-  pub flags : flagRule (e .flags) ≡ true
-  pub ascii : has (e .flags) ASCII ≡ isAscii p
-  pub letter : has (e .flags) ASCII-ALPHABETIC ≡ isAsciiLetter p
-  pub graphic : has (e .flags) ASCII-GRAPHIC ≡ isAsciiGraphic p
-  pub digit : has (e .flags) ASCII-DIGIT ≡ isAsciiDigit p
-  pub latin : isAsciiLetter p ≡ true → has (e .flags) LATIN ≡ true
-  pub plain : isAsciiLetter p ≡ true → has (e .flags) ACCENTUATED ≡ false
-  pub range : e .range ≡ rangeOf p
-  pub base : scalar (e .base) ≡ true
-  pub lower : scalar (e .lower) ≡ true
-  pub baseless : has (e .flags) ACCENTUATED ≡ false → e .base ≡ 0
+ranges-length : length rangeNumbers ≡ BUILTIN-END
+unfolding rangeNumbers
+ranges-length = refl
+
+ranges-tested : (p : ℕ) → p < length rangeNumbers → T (rangeTest p (getD rangeNumbers p 0))
+unfolding rangeTest rangeOf rangeNumbers
+ranges-tested = at rangeTest rangeNumbers tt
+
+bases-length : length bases ≡ BUILTIN-END
+unfolding bases
+bases-length = refl
+
+bases-tested : (p : ℕ) → p < length bases → T (baseTest p (getD bases p 0))
+unfolding baseTest scalar has flagWords bases
+bases-tested = at baseTest bases tt
+
+lowers-length : length lowers ≡ BUILTIN-END
+unfolding lowers
+lowers-length = refl
+
+lowers-tested : (p : ℕ) → p < length lowers → T (lowerTest p (getD lowers p 0))
+unfolding lowerTest scalar lowers
+lowers-tested = at lowerTest lowers tt
 
 so : (b : Bool) → T b → b ≡ true
 so true t = refl
@@ -70,10 +96,18 @@ module _ (a b c d e : Bool) (h : a && b && c && d && e ≡ true) where
   is-5 : e ≡ true
   is-5 = and-r (a && b && c && d) e h
 
-parts : (p : ℕ) (e : Entry) → entryRule p e ≡ true → Lawful p e
-unfolding entryRule asciiRule scalarRule baseRule
-parts p e h =
-    let f = e .flags in
+-- the rule at each entry
+pub entry-lawful : (p : ℕ) → p < BUILTIN-END → Lawful p (entryAt p)
+unfolding entryAt flagsTest asciiTest rangeTest baseTest lowerTest
+entry-lawful p h =
+    let f = getD flagWords p 0 in
+    let r = getD rangeNumbers p 0 in
+    let b = getD bases p 0 in
+    let l = getD lowers p 0 in
+    let hf = so (flagsTest p f) (flags-tested p (rw flags-length h)) in
+    let hr = so (rangeTest p r) (ranges-tested p (rw ranges-length h)) in
+    let hb = so (baseTest p b) (bases-tested p (rw bases-length h)) in
+    let hl = so (lowerTest p l) (lowers-tested p (rw lowers-length h)) in
     let latin = has f LATIN in
     let plain = not (has f ACCENTUATED) in
     let a1 = same (has f ASCII) (isAscii p) in
@@ -81,31 +115,22 @@ parts p e h =
     let a3 = same (has f ASCII-GRAPHIC) (isAsciiGraphic p) in
     let a4 = same (has f ASCII-DIGIT) (isAsciiDigit p) in
     let a5 = implies (isAsciiLetter p) (latin && plain) in
-    let r1 = flagRule f in
-    let r2 = asciiRule p f in
-    let r3 = eqb (e .range) (rangeOf p) in
-    let r4 = scalarRule e in
-    let r5 = baseRule e in
-    let h2 = is-2 r1 r2 r3 r4 r5 h in
-    let h4 = is-4 r1 r2 r3 r4 r5 h in
-    let inLatin : isAsciiLetter p ≡ true → latin && plain ≡ true = implies-true (isAsciiLetter p) (latin && plain) (is-5 a1 a2 a3 a4 a5 h2) in
+    let ha = and-r (flagRule f) (asciiTest p f) hf in
+    let inLatin : isAsciiLetter p ≡ true → latin && plain ≡ true = implies-true (isAsciiLetter p) (latin && plain) (is-5 a1 a2 a3 a4 a5 ha) in
+    let based = and-r (scalar b) (eqb b 0 || has f ACCENTUATED) hb in
     record {
-      flags = is-1 r1 r2 r3 r4 r5 h;
-      ascii = same-true (has f ASCII) (isAscii p) (is-1 a1 a2 a3 a4 a5 h2);
-      letter = same-true (has f ASCII-ALPHABETIC) (isAsciiLetter p) (is-2 a1 a2 a3 a4 a5 h2);
-      graphic = same-true (has f ASCII-GRAPHIC) (isAsciiGraphic p) (is-3 a1 a2 a3 a4 a5 h2);
-      digit = same-true (has f ASCII-DIGIT) (isAsciiDigit p) (is-4 a1 a2 a3 a4 a5 h2);
+      flags = and-l (flagRule f) (asciiTest p f) hf;
+      ascii = same-true (has f ASCII) (isAscii p) (is-1 a1 a2 a3 a4 a5 ha);
+      letter = same-true (has f ASCII-ALPHABETIC) (isAsciiLetter p) (is-2 a1 a2 a3 a4 a5 ha);
+      graphic = same-true (has f ASCII-GRAPHIC) (isAsciiGraphic p) (is-3 a1 a2 a3 a4 a5 ha);
+      digit = same-true (has f ASCII-DIGIT) (isAsciiDigit p) (is-4 a1 a2 a3 a4 a5 ha);
       latin = λ i. and-l latin plain (inLatin i);
       plain = λ i. not-true (has f ACCENTUATED) (and-r latin plain (inLatin i));
-      range = eqb-true (e .range) (rangeOf p) (is-3 r1 r2 r3 r4 r5 h);
-      base = and-l (scalar (e .base)) (scalar (e .lower)) h4;
-      lower = and-r (scalar (e .base)) (scalar (e .lower)) h4;
-      baseless = λ i. eqb-true (e .base) 0 (or-l (eqb (e .base) 0) (has f ACCENTUATED) (is-5 r1 r2 r3 r4 r5 h) i);
+      range = eqb-true r (rangeOf p) hr;
+      base = and-l (scalar b) (eqb b 0 || has f ACCENTUATED) hb;
+      lower = hl;
+      baseless = λ i. eqb-true b 0 (or-l (eqb b 0) (has f ACCENTUATED) based i);
     }
-
--- the rule at each entry
-pub entry-lawful : (p : ℕ) → p < BUILTIN-END → Lawful p (entryAt p)
-entry-lawful p h = parts p (entryAt p) (so (entryRule p (entryAt p)) (tested p (rw words-length h)))
 
 -- "25 to 31 are clear"
 pub entry-flags-small : (p : ℕ) → p < BUILTIN-END → entryAt p .flags < FLAGS-END
