@@ -7,7 +7,7 @@ use native.Mathlib.Omega.{arith}
 use lib.Dec.{leb, eqb}
 use borrow.Author.Tests.{le-leb, lt-leb, ne-eqb}
 use Rattle.bits.specs.Tests.{within, split, within-yes, within-below, within-above}
-use Rattle.utf8_table.specs.WellFormed.{Step, one, two, three, four, noRow, continues, isTwo, isThree, isFour, row}
+use Rattle.utf8_table.specs.WellFormed.{Step, one, two, three, four, noRow, continues, isTwo, isThree, isFour, rowsOfThree, rowsOfFour, row}
 
 unfoldable pub leadsTwo : ℕ → ℕ → Bool
 leadsTwo a b = leb 0xC2 a && continues b
@@ -44,25 +44,9 @@ module _ (lo hi lo2 hi2 a b c d : ℕ) where
   unfolding isFour
   four-on e = rw (three-on e)
 
--- the table's rows of three bytes, with the rows after them, and its rows of four
-abbrev threes : ℕ → ℕ → ℕ → Step → Step
-threes a b c rest =
-    cond (isThree 0xE0 0xE0 0xA0 0xBF a b c) (three a b c)
-    (cond (isThree 0xE1 0xEC 0x80 0xBF a b c) (three a b c)
-    (cond (isThree 0xED 0xED 0x80 0x9F a b c) (three a b c)
-    (cond (isThree 0xEE 0xEF 0x80 0xBF a b c) (three a b c)
-    rest)))
-
-abbrev fours : ℕ → ℕ → ℕ → ℕ → Step
-fours a b c d =
-    cond (isFour 0xF0 0xF0 0x90 0xBF a b c d) (four a b c d)
-    (cond (isFour 0xF1 0xF3 0x80 0xBF a b c d) (four a b c d)
-    (cond (isFour 0xF4 0xF4 0x80 0x8F a b c d) (four a b c d)
-    noRow))
-
 module _ (a b c d : ℕ) where
   no-threes : (rest : Step) → within 0xE0 0xE0 a ≡ false → within 0xE1 0xEC a ≡ false → within 0xED 0xED a ≡ false
-      → within 0xEE 0xEF a ≡ false → threes a b c rest ≡ rest
+      → within 0xEE 0xEF a ≡ false → rowsOfThree a b c rest ≡ rest
   no-threes rest e f g h =
       rw (
         three-off 0xE0 0xE0 0xA0 0xBF a b c d e,
@@ -71,7 +55,7 @@ module _ (a b c d : ℕ) where
         three-off 0xEE 0xEF 0x80 0xBF a b c d h,
       )
 
-  no-fours : a < 0xF0 → fours a b c d ≡ noRow
+  no-fours : a < 0xF0 → rowsOfFour a b c d ≡ noRow
   no-fours h =
       rw (
         four-off 0xF0 0xF0 0x90 0xBF a b c d (within-below 0xF0 0xF0 a (omega arith)),
@@ -80,7 +64,7 @@ module _ (a b c d : ℕ) where
       )
 
   -- from E0 on the first two rows are past
-  past-two : 0xE0 ≤ a → row a b c d ≡ threes a b c (fours a b c d)
+  past-two : 0xE0 ≤ a → row a b c d ≡ rowsOfThree a b c (rowsOfFour a b c d)
   unfolding row
   past-two h =
       rw (
@@ -97,7 +81,7 @@ module _ (a b c d : ℕ) where
   row-two h k =
       rw (
         within-above 0x00 0x7F a (omega arith) (omega arith),
-        no-threes (fours a b c d) (within-below 0xE0 0xE0 a k) (within-below 0xE1 0xEC a (omega arith))
+        no-threes (rowsOfFour a b c d) (within-below 0xE0 0xE0 a k) (within-below 0xE1 0xEC a (omega arith))
             (within-below 0xED 0xED a (omega arith)) (within-below 0xEE 0xEF a (omega arith)),
         no-fours (omega arith),
       )
@@ -106,7 +90,7 @@ module _ (a b c d : ℕ) where
       (λ m. rw (two-on 0xC2 0xDF 0x80 0xBF a b c d (within-yes 0xC2 0xDF a m (omega arith)), le-leb 0xC2 a m)))
 
   -- E0 and ED have a row of their own; the leads between have one row, and so have those after
-  threes-are : 0xE0 ≤ a → a < 0xF0 → threes a b c noRow ≡ cond (leadsThree a b c) (three a b c) noRow
+  threes-are : 0xE0 ≤ a → a < 0xF0 → rowsOfThree a b c noRow ≡ cond (leadsThree a b c) (three a b c) noRow
   unfolding isTwo isThree leadsThree
   threes-are h k =
       split a 0xE1 (λ m. let e : a ≡ 0xE0 = omega arith in rw e)
@@ -132,7 +116,7 @@ module _ (a b c d : ℕ) where
   pub row-three : 0xE0 ≤ a → a < 0xF0 → row a b c d ≡ cond (leadsThree a b c) (three a b c) noRow
   row-three h k = past-two h ∙ rw (no-fours k) (threes-are h k)
 
-  fours-are : 0xF0 ≤ a → fours a b c d ≡ cond (leadsFour a b c d) (four a b c d) noRow
+  fours-are : 0xF0 ≤ a → rowsOfFour a b c d ≡ cond (leadsFour a b c d) (four a b c d) noRow
   unfolding isTwo isThree isFour leadsFour
   fours-are h =
       split a 0xF1 (λ m. let e : a ≡ 0xF0 = omega arith in rw e)
@@ -156,7 +140,7 @@ module _ (a b c d : ℕ) where
   pub row-four : 0xF0 ≤ a → row a b c d ≡ cond (leadsFour a b c d) (four a b c d) noRow
   row-four h =
       past-two (omega arith)
-      ∙ no-threes (fours a b c d) (within-above 0xE0 0xE0 a (omega arith) (omega arith)) (within-above 0xE1 0xEC a (omega arith) (omega arith))
+      ∙ no-threes (rowsOfFour a b c d) (within-above 0xE0 0xE0 a (omega arith) (omega arith)) (within-above 0xE1 0xEC a (omega arith) (omega arith))
       (within-above 0xED 0xED a (omega arith) (omega arith)) (within-above 0xEE 0xEF a (omega arith) (omega arith))
       ∙ fours-are h
 

@@ -53,20 +53,29 @@ isThree lo hi lo2 hi2 a b c = isTwo lo hi lo2 hi2 a b && continues c
 unfoldable pub isFour : ℕ → ℕ → ℕ → ℕ → ℕ → ℕ → ℕ → ℕ → Bool
 isFour lo hi lo2 hi2 a b c d = isThree lo hi lo2 hi2 a b c && continues d
 
--- Table 3-7: U+0000..U+007F; U+0080..U+07FF; U+0800..U+0FFF; U+1000..U+CFFF; U+D000..U+D7FF; U+E000..U+FFFF; U+10000..U+3FFFF;
--- U+40000..U+FFFFF; U+100000..U+10FFFF
+-- Table 3-7, its rows of four bytes: U+10000..U+3FFFF; U+40000..U+FFFFF; U+100000..U+10FFFF
+abbrev pub rowsOfFour : ℕ → ℕ → ℕ → ℕ → Step
+rowsOfFour a b c d =
+    cond (isFour 0xF0 0xF0 0x90 0xBF a b c d) (four a b c d)
+    (cond (isFour 0xF1 0xF3 0x80 0xBF a b c d) (four a b c d)
+    (cond (isFour 0xF4 0xF4 0x80 0x8F a b c d) (four a b c d)
+    noRow))
+
+-- its rows of three, before the rest: U+0800..U+0FFF; U+1000..U+CFFF; U+D000..U+D7FF; U+E000..U+FFFF
+abbrev pub rowsOfThree : ℕ → ℕ → ℕ → Step → Step
+rowsOfThree a b c rest =
+    cond (isThree 0xE0 0xE0 0xA0 0xBF a b c) (three a b c)
+    (cond (isThree 0xE1 0xEC 0x80 0xBF a b c) (three a b c)
+    (cond (isThree 0xED 0xED 0x80 0x9F a b c) (three a b c)
+    (cond (isThree 0xEE 0xEF 0x80 0xBF a b c) (three a b c)
+    rest)))
+
+-- the whole table: U+0000..U+007F; U+0080..U+07FF; then those
 unfoldable pub row : ℕ → ℕ → ℕ → ℕ → Step
 row a b c d =
     cond (within 0x00 0x7F a) (one a)
     (cond (isTwo 0xC2 0xDF 0x80 0xBF a b) (two a b)
-    (cond (isThree 0xE0 0xE0 0xA0 0xBF a b c) (three a b c)
-    (cond (isThree 0xE1 0xEC 0x80 0xBF a b c) (three a b c)
-    (cond (isThree 0xED 0xED 0x80 0x9F a b c) (three a b c)
-    (cond (isThree 0xEE 0xEF 0x80 0xBF a b c) (three a b c)
-    (cond (isFour 0xF0 0xF0 0x90 0xBF a b c d) (four a b c d)
-    (cond (isFour 0xF1 0xF3 0x80 0xBF a b c d) (four a b c d)
-    (cond (isFour 0xF4 0xF4 0x80 0x8F a b c d) (four a b c d)
-    noRow))))))))
+    (rowsOfThree a b c (rowsOfFour a b c d)))
 
 -- the byte at a place; past the end 0, which continues nothing
 abbrev pub byteAt : List ℕ → ℕ → ℕ

@@ -55,7 +55,7 @@ add-result-3 : tie.Need-add-result-3
 add-result-3 c = search needs
 
 returns : tie.Need-returns
-returns c = cc
+returns c = rw (c .wide4 .ensures .is, c .before .before .wide3 .ensures .is, c .before .before .before .before .wide2 .ensures .is, c .before .before .before .before .before .before .wide .ensures .is)
 
 pub four-at-spec : {M : Type 1} → statement M
 four-at-spec =

@@ -63,7 +63,7 @@ in-range-requires-3 c κs = search needs
 
 returns-2 : tie.Need-returns-2
 unfolding leadsFour
-returns-2 c = cc
+returns-2 c = rw (c .in-range3 .ensures, c .before .before .before .in-range2 .ensures, c .before .before .before .before .before .before .in-range .ensures, c .before .before .before .before .before .before .before .before .before .pick2 .ensures .is, c .before .before .before .before .before .before .before .before .before .before .pick .ensures .is, c .before .wide4 .ensures .is, c .before .before .before .before .wide3 .ensures .is, c .before .before .before .before .before .before .before .wide2 .ensures .is, c .before .before .before .before .before .before .before .before .before .before .before .wide .ensures .is)
 
 pub is-four-spec : {M : Type 1} → statement M
 is-four-spec =

@@ -51,7 +51,7 @@ in-range-requires-2 c κs = search needs
 
 returns-2 : tie.Need-returns-2
 unfolding leadsThree
-returns-2 c = cc
+returns-2 c = rw (c .in-range2 .ensures, c .before .before .before .in-range .ensures, c .before .before .before .before .before .before .pick2 .ensures .is, c .before .before .before .before .before .before .before .pick .ensures .is, c .before .wide3 .ensures .is, c .before .before .before .before .wide2 .ensures .is, c .before .before .before .before .before .before .before .before .wide .ensures .is)
 
 pub is-three-spec : {M : Type 1} → statement M
 is-three-spec =

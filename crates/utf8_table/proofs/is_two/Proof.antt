@@ -33,7 +33,7 @@ in-range-requires c κs = search needs
 
 returns-2 : tie.Need-returns-2
 unfolding leadsTwo
-returns-2 c = cc
+returns-2 c = rw (c .in-range .ensures, c .before .wide2 .ensures .is, c .before .before .before .wide .ensures .is)
 
 pub is-two-spec : {M : Type 1} → statement M
 is-two-spec =
