@@ -9,3 +9,4 @@ pub mod MatchingLaws
 pub mod JaroLaws
 pub mod OutOfOrder
 pub mod Matched
+pub mod WorkedExamples
