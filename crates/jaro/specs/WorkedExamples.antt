@@ -1,5 +1,5 @@
--- The three worked examples that are published with the measure, computed by the definition: m, t and the value, as an f64 and as the
--- nearest f32, each by its bits. (MARTHA, MARHTA: 0.944; DWAYNE, DUANE: 0.822; DIXON, DICKSONX: 0.767.)
+-- The measure's published worked examples, computed by the definition: m, t and the value, as an f64 and as the nearest f32, each by its
+-- bits. (MARTHA, MARHTA: 6, 1 and 0.944; DWAYNE, DUANE: 4, 0 and 0.822; DIXON, DICKSONX: 4, 0 and 0.767.)
 -- Assumes nothing.
 use Prim.Native.Nat.{ℕ}
 use mathlib.Core.Path.{_≡_, refl}

@@ -18,7 +18,7 @@ pub struct Counts {
     pub transpositions: usize,
 }
 
-// Up to so many letters are compared one by one.
+// Up to so many letters of a window are compared one by one.
 const FEW: usize = 32;
 
 // n - k, at least 0.
@@ -28,6 +28,7 @@ fn less(n: usize, k: usize) -> usize
     if n < k { 0 } else { n - k }
 }
 
+// The smaller of two numbers.
 fn least(a: usize, b: usize) -> usize
     ensures { λ r. ⌜ found.Least a b r ⌝ }
 {
