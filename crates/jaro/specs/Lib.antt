@@ -1,11 +1,12 @@
 pub mod Jaro
+pub mod JaroLaws
 pub mod Similarity
-pub mod Held
-pub mod Bounds
 pub mod SimilarityLaws
+pub mod WorkedExamples
+pub mod MatchingLaws
 pub mod Among
 pub mod Place
-pub mod MatchingLaws
-pub mod JaroLaws
 pub mod OutOfOrder
 pub mod Matched
+pub mod Held
+pub mod Bounds

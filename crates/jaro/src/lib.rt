@@ -1,6 +1,6 @@
 // How alike a layer's letters and a language's are: the Jaro measure in f64, and its nearest f32. (strsim's `jaro`, and `as f32`, in cd.rs.)
 ghost use mathlib.Core.Path.{_≡_};
-ghost use Prim.Native.Nat.{_-_, _<_, _≤_};
+ghost use Prim.Native.Nat.{_-_, _≤_};
 ghost use lib.ListN.{length};
 ghost use Rattle.bits.specs.Limits.{LONGEST-RANKED, LANGUAGE-LETTERS};
 ghost use Rattle.jaro.specs.Jaro as spec;
@@ -18,8 +18,8 @@ pub struct Counts {
     pub transpositions: usize,
 }
 
-// Up to so many letters are compared one by one.
-const FEW: usize = 64;
+// Up to so many letters of a window are compared one by one.
+const FEW: usize = 32;
 
 // n - k, at least 0.
 fn less(n: usize, k: usize) -> usize
@@ -28,6 +28,7 @@ fn less(n: usize, k: usize) -> usize
     if n < k { 0 } else { n - k }
 }
 
+// The smaller of two numbers.
 fn least(a: usize, b: usize) -> usize
     ensures { λ r. ⌜ found.Least a b r ⌝ }
 {

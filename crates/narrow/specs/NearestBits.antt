@@ -104,9 +104,9 @@ module _ (u : ℕ) (lo : LEAST ≤ u) (hi : u < ABOVE) where
   pub nearest-bits : ofBits binary32 (bits u) ≡ nearestF32 (ofBits binary64 u)
   nearest-bits = ap (ofBits binary32) (sym bits-is) ∙ ofBits-toBits binary32 (nearestF32 (ofBits binary64 u)) fit
 
-  pub nearest-real : nanBits binary32 (bits u) ≡ false
+  pub bits-real : nanBits binary32 (bits u) ≡ false
   unfolding isNan
-  nearest-real = nanBits-is binary32 (bits u) ∙ ap isNan nearest-bits ∙ go (nearestF32 (ofBits binary64 u)) has
+  bits-real = nanBits-is binary32 (bits u) ∙ ap isNan nearest-bits ∙ go (nearestF32 (ofBits binary64 u)) has
     where
       go : (x : Float) → HasValue x false (q * 2 ^ (29 + d)) (2 ^ 149) → isNan x ≡ false
       go nan v = absurd v

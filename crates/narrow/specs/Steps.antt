@@ -6,24 +6,14 @@ use mathlib.Core.Logic.{inl, inr}
 use mathlib.Core.Bool.{true, not}
 use native.Mathlib.Omega.{arith}
 use lib.Dec.{T}
-use lib.Ieee.{Float, nan, inf, fin, binary32, binary64, nearest, round, le, lt, eq, fits, isNan, nanBits, ofBits, toBits}
+use lib.Ieee.{Float, binary32, binary64, nearest, round, fits, nanBits, ofBits, toBits}
 use lib.Ieee.Fits.{nearest-le}
 use lib.Ieee.Nearest.{nearest-ge}
 use lib.Ieee.Bits.{ofBits-toBits}
 use Rattle.narrow.specs.Fields.{DROPPED, REBIASED, LEAST, ABOVE, SETTLED-END}
-use Rattle.narrow.specs.Nearest.{nearestF32, Narrowable, NOUGHT}
-use Rattle.narrow.specs.NearestBits.{bits, nearest-bits, nearest-real}
+use Rattle.narrow.specs.Nearest.{nearestF32, Narrowable}
+use Rattle.narrow.specs.NearestBits.{bits, nearest-bits, bits-real}
 use Rattle.narrow.specs.Range.{narrowable-bits}
-
-pub no-nan : (x : Float) → Narrowable x → T (not (isNan x))
-unfolding isNan le lt eq
-no-nan nan (inl e) = absurd (differ e)
-  where
-    differ : nan ≡ NOUGHT → ⊥
-    differ e = let z : _≡_ {A = ℕ} 0 1 = cc in omega arith
-no-nan nan (inr (a, b)) = absurd a
-no-nan (inf s) r = tt
-no-nan (fin s m e) r = tt
 
 module _ (x : Float) (r : Narrowable x) (g : fits binary64 x ≡ true) where
   held : T (fits binary64 x)
@@ -49,7 +39,7 @@ module _ (x : Float) (r : Narrowable x) (g : fits binary64 x ≡ true) where
       settled-high = rw e (omega (arith, low-high .1, nearest-le (toBits binary64 x / DROPPED) (compare (toBits binary64 x % DROPPED * 2) DROPPED)))
 
       pub settled-real : T (not (nanBits binary32 (v - REBIASED)))
-      settled-real = rw (e, nearest-real (toBits binary64 x) (low-high .0) (low-high .1)) tt
+      settled-real = rw (e, bits-real (toBits binary64 x) (low-high .0) (low-high .1)) tt
 
       pub settled-out : ofBits binary32 (v - REBIASED) ≡ nearestF32 x
       settled-out = rw e (nearest-bits (toBits binary64 x) (low-high .0) (low-high .1) ∙ ap nearestF32 (ofBits-toBits binary64 x held))

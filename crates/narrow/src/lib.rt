@@ -11,7 +11,7 @@ ghost use Rattle.narrow.specs.Nearest.{Narrowable, nearestF32};
 // what the digits that are dropped count to: 2 ^ 29
 const DROPPED: u64 = 0x2000_0000;
 
-// half of it: from here on the digits are nearer to the next number up
+// half of it: dropping so much is a tie
 const HALF: u64 = DROPPED / 2;
 
 // the weight of the exponent's field in an f32's bits: 2 ^ 23

@@ -1,12 +1,13 @@
 -- The bits of the nearest f32 are the f64's with 29 digits dropped, rounded, and the biases' difference taken off (`nearest-bits`); each
 -- need is one law of Steps.
 -- Assumes nothing.
-use Rattle.narrow.specs.Steps.{no-nan, zero-out, settled-fits, settled-low, settled-high, settled-real, settled-out}
+use Rattle.narrow.specs.NearestLaws.{narrowable-real}
+use Rattle.narrow.specs.Steps.{zero-out, settled-fits, settled-low, settled-high, settled-real, settled-out}
 use Rattle.narrow.proofs.nearest_f32.Statement.{statement}
 use Rattle.narrow.proofs.nearest_f32.Tie as tie
 
 float-to-bits-u : tie.Need-float-to-bits-u
-float-to-bits-u c = no-nan _ (c .pre)
+float-to-bits-u c = narrowable-real _ (c .pre)
 
 returns : tie.Need-returns
 returns c = zero-out _ (c .before .pre) (c .before .good .0 .1) (c .if1 .taken)
