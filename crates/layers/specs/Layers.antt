@@ -4,7 +4,7 @@
 -- Not here: which characters are taken and what they lower to, which their classes say; which layers are skipped.
 -- Assumes nothing.
 use Prim.Native.Nat.{ℕ}
-use mathlib.Core.Bool.{Bool, true, false, cond, not, _||_}
+use mathlib.Core.Bool.{Bool, false, cond, not, _||_}
 use mathlib.Core.List.{List, [], _∷_, _++_}
 use lib.Dec.{eqb}
 use Rattle.classes.specs.Pairs.{suspicious}

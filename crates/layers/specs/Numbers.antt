@@ -2,7 +2,7 @@
 -- `numbers` gives each character its layer's number: 1 for the oldest layer, 0 for a character in none. That these are the layers of 01
 -- is `layer-letters` and its kin in LayersLaws.
 -- Assumes nothing.
-use Prim.Native.Nat.{ℕ, suc, _+_}
+use Prim.Native.Nat.{ℕ, _+_}
 use mathlib.Core.Bool.{Bool, cond}
 use mathlib.Core.List.{List, [], _∷_, _++_}
 use lib.ListN.{length, getD}

@@ -3,14 +3,14 @@
 -- layers.
 -- Assumes nothing.
 use Prim.Native.Nat.{ℕ, zero, suc, _+_, _≤_, _<_}
-use mathlib.Core.Path.{_≡_, refl, sym, ap, _∙_}
+use mathlib.Core.Path.{_≡_, refl, sym, ap}
 use mathlib.Core.Bool.{Bool, true, false, cond}
 use mathlib.Core.List.{List, [], _∷_, _++_}
 use native.Mathlib.Nat.{suc-add, not-suc-le-zero, le-of-suc-le-suc}
 use native.Mathlib.Omega.{arith}
 use lib.ListN.{length, getD, length-append}
 use lib.Dec.{eqb, ltb, lit<}
-use borrow.Author.Tests.{ltb-true, lt-ltb, le-ltb, eqb-false, eqb-true, ne-eqb}
+use borrow.Author.Tests.{ltb-true, lt-ltb, le-ltb, eqb-false, ne-eqb}
 use Rattle.bits.specs.First.{first, seek, first-before, first-within}
 use Rattle.bits.specs.Limits.{LAST-RANGE, RANGES}
 use Rattle.bits.specs.Tests.{by-test, cond-both, split}

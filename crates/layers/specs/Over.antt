@@ -1,13 +1,13 @@
 -- A list written over another from a place on; the rest stays. What every step leaves in the work area is said with it.
 -- Assumes nothing.
-use Prim.Native.Nat.{ℕ, zero, suc, _+_, _-_, _≤_, _<_}
-use mathlib.Core.Path.{_≡_, refl, sym, ap, _∙_, subst}
-use mathlib.Core.List.{List, [], _∷_, _++_, append-assoc, append-nil}
+use Prim.Native.Nat.{ℕ, suc, _+_, _-_, _≤_, _<_}
+use mathlib.Core.Path.{_≡_, refl, sym, ap, _∙_}
+use mathlib.Core.List.{List, [], _∷_, _++_, append-assoc}
 use native.Mathlib.Nat.{add-zero, zero-add, suc-add}
 use native.Mathlib.Numerals.{add-one}
 use native.Mathlib.Omega.{arith}
 use lib.ListN.{length, getD, set, take, drop, length-append, length-drop, length-set, List·getD-append, take-append-drop}
-use lib.Seq.{set-append-left, paste, paste-suc, length-take-le, take-append-le, take-append-seam, take-take, drop-append-le, drop-append-add, take-at, drop-at, drop-drop, getD-take, getD-drop, getD-append-add, ext-getD, take-all}
+use lib.Seq.{set-append-left, paste, paste-suc, length-take-le, take-append-le, take-append-seam, take-take, drop-at, drop-drop, getD-take, getD-drop, getD-append-add, ext-getD}
 use Rattle.bits.specs.Tests.{split}
 
 unfoldable pub over : List ℕ → ℕ → List ℕ → List ℕ

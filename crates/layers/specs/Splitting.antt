@@ -1,88 +1,21 @@
--- The split under way: what `alpha_unicode_split` has done after i characters, and what `own` and `layer_for` look for.
+-- The split under way: what `alpha_unicode_split` has done after i characters.
 -- Assumes nothing.
-use Prim.Native.Nat.{ℕ, zero, suc, _+_, _≤_, _<_}
-use mathlib.Core.Path.{_≡_, refl, sym, ap, _∙_, subst}
-use mathlib.Core.Bool.{Bool, true, false, cond, not}
+use Prim.Native.Nat.{ℕ, _+_, _≤_, _<_}
+use mathlib.Core.Path.{_≡_, refl, sym, ap, _∙_}
 use mathlib.Core.List.{List, [], _∷_, _++_}
 use native.Mathlib.Numerals.{add-one}
 use lib.Arith.{lt-of-le-ne}
-use native.Mathlib.Nat.{zero-add, not-suc-le-zero, le-of-suc-le-suc}
+use native.Mathlib.Nat.{zero-add}
 use native.Mathlib.Omega.{arith}
-use lib.ListN.{length, getD, set, take, drop, replicate, length-set, length-append, length-replicate, length-drop, drop-of-length-le, List·getD-append, List·getD-eq-default}
-use lib.Seq.{set-getD, take-suc-set, take-suc, drop-cons, drop-drop, getD-drop, getD-take, length-take-le, getD-append-seam, take-all, getD-append-add}
-use lib.Dec.{eqb, ltb, lit<}
-use borrow.Author.Tests.{ltb-true, ltb-false, eqb-false, lt-ltb, le-ltb, ne-eqb, eq-eqb}
-use Rattle.bits.specs.First.{first, firstFrom, first-start, first-hit, first-miss, first-end, first-before, first-within}
+use lib.ListN.{length, getD, set, take, drop, replicate, length-set, length-append, length-replicate, drop-of-length-le}
+use lib.Seq.{set-getD, take-suc-set, drop-cons, getD-take, length-take-le, take-all}
+use borrow.Author.Tests.{ne-eqb}
 use Rattle.bits.specs.Limits.{LAST-RANGE, RANGES}
-use Rattle.bits.specs.Tests.{by-test, by-bool, split, cond-both}
-use Rattle.classes.specs.Pairs.{suspicious}
-use Rattle.layers.specs.Layers.{accepts, isOwn}
-use Rattle.layers.specs.Numbers.{oldest, layerFor, keysWith, numbersFrom, keysFrom, numbers, keysOf}
-use Rattle.layers.specs.NumbersLaws.{Below, layer-within, layer-new, keys-old, keys-new, numbers-length, key-fresh, keys-start, keys-marks}
+use Rattle.layers.specs.Numbers.{layerFor, keysWith, numbersFrom, keysFrom, numbers, keysOf}
+use Rattle.layers.specs.NumbersLaws.{Below, layer-within, keys-old, keys-new, numbers-length, key-fresh, keys-start, keys-marks}
 use Rattle.layers.specs.Over.{over, over-nothing, over-length, over-more, over-after}
-use Rattle.layers.specs.Few.{New, Marks, marks-start, marks-room, marks-more, marks-few}
-
--- ---- a walk of the keys
-module _ (test : ℕ → Bool) (keys : List ℕ) where
-  -- none of the first j keys passes the test
-  pub record Looking (j : ℕ) : Type 0 where
-    pub below : j ≤ length keys
-    pub rest : firstFrom (λ k. test (getD keys k 0)) (length keys) j ≡ oldest test keys
-
-  pub look-start : Looking 0
-  unfolding oldest
-  look-start = record { below = omega arith; rest = first-start (λ k. test (getD keys k 0)) (length keys) }
-
-  module _ {j : ℕ} (g : Looking j) where
-    pub look-on : j < length keys → test (getD keys j 0) ≡ false → Looking (j + 1)
-    look-on h e =
-        record { below = omega arith; rest = sym (first-miss (λ k. test (getD keys k 0)) (length keys) j h e) ∙ g .rest }
-
-    pub look-hit : j < length keys → test (getD keys j 0) ≡ true → oldest test keys ≡ j
-    look-hit h e = sym (g .rest) ∙ first-hit (λ k. test (getD keys k 0)) (length keys) j h e
-
-    pub look-end : length keys ≤ j → oldest test keys ≡ j
-    look-end h = sym (g .rest) ∙ first-end (λ k. test (getD keys k 0)) (length keys) j (omega (arith, g .below))
-
--- what the pair table's bit says of a key
-pub accepts-not : (pairs : List ℕ) (a b : ℕ) (s : Bool) → s ≡ suspicious pairs a b → s ≡ true → accepts pairs b a ≡ false
-unfolding accepts
-accepts-not pairs a b s e t = rw (← e, t)
-
-pub accepts-so : (pairs : List ℕ) (a b : ℕ) (s : Bool) → s ≡ suspicious pairs a b → s ≡ false → accepts pairs b a ≡ true
-unfolding accepts
-accepts-so pairs a b s e t = rw (← e, t)
-
-pub own-not : (a b : ℕ) → (a ≡ b → ⊥) → isOwn b a ≡ false
-unfolding isOwn
-own-not a b h = ne-eqb a b h
-
-pub own-so : (a b : ℕ) → a ≡ b → isOwn b a ≡ true
-unfolding isOwn
-own-so a b h = eq-eqb a b h
-
--- ---- which layer
-
-module _ (pairs keys : List ℕ) (b : ℕ) where
-  -- a key accepts the range, and none before it does
-  pub layer-joins : {j : ℕ} → Looking (accepts pairs b) keys j → j < length keys → accepts pairs b (getD keys j 0) ≡ true → j ≡ layerFor pairs keys b
-  unfolding layerFor
-  layer-joins {j} g l t =
-      let e : oldest (accepts pairs b) keys ≡ j = look-hit (accepts pairs b) keys g l t in
-      simp (e, lt-ltb j (length keys) l)
-
-  -- no key accepts it
-  pub layer-own : {j : ℕ} (r : ℕ) → Looking (accepts pairs b) keys j → length keys ≤ j → r ≡ oldest (isOwn b) keys → r ≡ layerFor pairs keys b
-  unfolding layerFor
-  layer-own {j} r g h e =
-      let l : length keys ≤ oldest (accepts pairs b) keys = omega (arith, look-end (accepts pairs b) keys g h) in
-      e ∙ simp (le-ltb (oldest (accepts pairs b) keys) (length keys) l)
-
-below-more : (l : List ℕ) (b : ℕ) → Below l → b ≤ LAST-RANGE → Below (l ++ (b ∷ []))
-below-more l b s h j =
-    split j (length l) (λ k. rw (List·getD-append l (b ∷ []) 0 j k) (s j))
-    (λ k. split (length l) j (λ m. rw (List·getD-eq-default (l ++ (b ∷ [])) 0 {n = j} (omega (arith, length-append l (b ∷ [])))) (omega arith))
-    (λ m. let e : j ≡ length l = omega arith in rw (e, getD-append-seam l b [] 0) h))
+use Rattle.layers.specs.Few.{Marks, marks-room, marks-few}
+use Rattle.layers.specs.Looking.{below-more}
 
 -- ---- the loop
 module _ (pairs : List ℕ) (n : ℕ) (w : List ℕ) where
@@ -150,6 +83,9 @@ module _ (pairs : List ℕ) (n : ℕ) (w : List ℕ) where
 
     wide-enough : i < length (numbers pairs (take n w))
     wide-enough = omega (arith, all g)
+
+    pub going-inside : i < length v
+    going-inside = omega (arith, going-size g, g .room)
 
     -- the range of the character at i still stands there
     pub going-here : getD v i 0 ≡ getD w i 0

@@ -7,7 +7,6 @@ ghost use Rattle.layers.specs.Layers.{isOwn};
 ghost use Rattle.layers.specs.Numbers.{oldest, layerFor};
 ghost use Rattle.layers.specs.NumbersLaws.{Below};
 ghost use Rattle.layers.specs.Splitting.{Split};
-
 use bits::limits::LAST_RANGE;
 use classes::is_suspicious;
 

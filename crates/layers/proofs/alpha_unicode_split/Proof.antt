@@ -1,7 +1,9 @@
+-- After i characters the first i words hold numbers and the others ranges still, and `count` different keys are those of the layers so far: so
+-- there is room for one more. Assumes nothing.
 use Prim.Native.Nat.{_-_}
-use mathlib.Core.Path.{refl, sym}
+use mathlib.Core.Path.{refl}
 use native.Mathlib.Omega.{arith}
-use Rattle.layers.specs.Splitting.{Going, going-start, going-skip, going-old, going-room, going-new, going-end, going-size, going-few, going-within, going-range}
+use Rattle.layers.specs.Splitting.{Going, going-start, going-skip, going-old, going-room, going-new, going-end, going-size, going-inside, going-few, going-within, going-range}
 use borrow.Author.Needs.{needs}
 use Rattle.layers.proofs.alpha_unicode_split.Statement.{statement}
 use Rattle.layers.proofs.alpha_unicode_split.Tie as tie
@@ -16,10 +18,10 @@ loop-holds : tie.Need-loop-holds Inv-loop μ-loop
 loop-holds c = going-start _ _ _ (c .before .before .pre .0) (c .before .before .pre .2)
 
 mul-range : tie.Need-mul-range Inv-loop μ-loop
-mul-range c = omega (arith, c .before .loop .inv .room, c .loop-test .taken, going-size _ _ _ (c .before .loop .inv))
+mul-range c = omega (arith, going-inside _ _ _ (c .before .loop .inv) (c .loop-test .taken))
 
 slice-read-range : tie.Need-slice-read-range Inv-loop μ-loop
-slice-read-range c = omega (arith, c .before .before .loop .inv .room, c .before .loop-test .taken, going-size _ _ _ (c .before .before .loop .inv))
+slice-read-range c = omega (arith, going-inside _ _ _ (c .before .before .loop .inv) (c .before .loop-test .taken))
 
 add-i : tie.Need-add-i Inv-loop μ-loop
 add-i c = omega (arith, c .before .before .before .loop .inv .room, c .before .before .loop-test .taken)
@@ -46,10 +48,10 @@ cast-work : tie.Need-cast-work Inv-loop μ-loop
 cast-work c = record { fits = omega (arith, going-within _ _ _ (c .before .before .before .before .before .loop .inv) (c .before .before .before .before .loop-test .taken) refl (c .before .before .if1 .left) (c .layer-for .ensures), going-few _ _ _ (c .before .before .before .before .before .loop .inv)) }
 
 mul-work : tie.Need-mul-work Inv-loop μ-loop
-mul-work c = omega (arith, c .before .before .before .before .before .loop .inv .room, c .before .before .before .before .loop-test .taken, going-size _ _ _ (c .before .before .before .before .before .loop .inv))
+mul-work c = omega (arith, going-inside _ _ _ (c .before .before .before .before .before .loop .inv) (c .before .before .before .before .loop-test .taken))
 
 slice-write-work : tie.Need-slice-write-work Inv-loop μ-loop
-slice-write-work c = omega (arith, c .before .before .before .before .before .loop .inv .room, c .before .before .before .before .loop-test .taken, going-size _ _ _ (c .before .before .before .before .before .loop .inv))
+slice-write-work c = omega (arith, going-inside _ _ _ (c .before .before .before .before .before .loop .inv) (c .before .before .before .before .loop-test .taken))
 
 mul-keys : tie.Need-mul-keys Inv-loop μ-loop
 mul-keys c = omega (arith, going-few _ _ _ (c .before .before .before .before .before .before .loop .inv))

@@ -1,7 +1,8 @@
+-- `layer_for` walks the keys: none of the first j accepts the range; where none does, `own` decides. Assumes nothing.
 use Prim.Native.Nat.{_-_}
 use lib.ListN.{length}
 use Rattle.layers.specs.Layers.{accepts}
-use Rattle.layers.specs.Splitting.{Looking, look-start, look-on, layer-joins, layer-own, accepts-not, accepts-so}
+use Rattle.layers.specs.Looking.{Looking, look-start, look-on, layer-joins, layer-own, accepts-not, accepts-so}
 use borrow.Author.Needs.{needs}
 use Rattle.layers.proofs.layer_for.Statement.{statement}
 use Rattle.layers.proofs.layer_for.Tie as tie

@@ -1,8 +1,9 @@
+-- `own` walks the keys: none of the first j is the range. Assumes nothing.
 use Prim.Native.Nat.{_-_}
 use mathlib.Core.Path.{sym}
 use lib.ListN.{length}
 use Rattle.layers.specs.Layers.{isOwn}
-use Rattle.layers.specs.Splitting.{Looking, look-start, look-on, look-hit, look-end, own-not, own-so}
+use Rattle.layers.specs.Looking.{Looking, look-start, look-on, look-hit, look-end, own-not, own-so}
 use borrow.Author.Needs.{needs}
 use Rattle.layers.proofs.own.Statement.{statement}
 use Rattle.layers.proofs.own.Tie as tie
