@@ -1,0 +1,9 @@
+pub mod Layers
+pub mod Numbers
+pub mod NumbersLaws
+pub mod Joining
+pub mod LayersLaws
+pub mod Over
+pub mod Few
+pub mod Looking
+pub mod Splitting

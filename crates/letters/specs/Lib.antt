@@ -1,0 +1,11 @@
+pub mod Letters
+pub mod Order
+pub mod LettersLaws
+pub mod Placing
+pub mod Rising
+pub mod Lacks
+pub mod LayerLetters
+pub mod Area
+pub mod Meeting
+pub mod Gathering
+pub mod Settling
