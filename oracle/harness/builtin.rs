@@ -1,12 +1,12 @@
-// The built-in table of U+0000 to U+024F, written twice from one list: as Rattle constants and as antt lists.
+// The built-in table of U+0000 to U+024F, written twice from one list: as Rattle constants, each entry one word, and as antt lists, a list
+// for each field and one of the words.
 use crate::tables::{BUILTIN_END, base_if_accented, point};
-use oracle::open::crate_class;
+use oracle::open::{Class, crate_class};
 use std::fmt::Write;
 
 const ROW: usize = 8;
 
 struct Column {
-    constant: &'static str,
     list: &'static str,
     says: &'static str,
     words: Vec<String>,
@@ -16,36 +16,44 @@ fn hex(n: u32) -> String {
     if n == 0 { "0".into() } else { format!("0x{n:X}") }
 }
 
-fn columns() -> Vec<Column> {
-    let entries: Vec<_> = (0..BUILTIN_END).map(|n| base_if_accented(crate_class(point(n)))).collect();
-    let column = |constant, list, says, words| Column { constant, list, says, words };
+fn entries() -> Vec<Class> {
+    (0..BUILTIN_END).map(|n| base_if_accented(crate_class(point(n)))).collect()
+}
+
+// An entry as one word, as crates/builtin/specs/Packed.antt takes it apart.
+fn packed(e: &Class) -> String {
+    assert!(e.flags < 1 << 25 && e.range < 1 << 7 && e.base < 1 << 16 && e.lower < 1 << 16);
+    let word = u64::from(e.flags) | u64::from(e.range) << 25 | u64::from(e.base) << 32 | u64::from(e.lower) << 48;
+    format!("0x{word:X}")
+}
+
+fn columns(entries: &[Class]) -> Vec<Column> {
+    let column = |list, says, words| Column { list, says, words };
     vec![
-        column("FLAGS", "flagWords", "flag words", entries.iter().map(|e| hex(e.flags)).collect()),
-        column("RANGES", "rangeNumbers", "numbers of the ranges", entries.iter().map(|e| e.range.to_string()).collect()),
-        column("BASES", "bases", "letters without accent; 0: the character itself", entries.iter().map(|e| hex(e.base)).collect()),
-        column("LOWERS", "lowers", "lower-case letters; 0: the character itself", entries.iter().map(|e| hex(e.lower)).collect()),
+        column("flagWords", "flag words", entries.iter().map(|e| hex(e.flags)).collect()),
+        column("rangeNumbers", "numbers of the ranges", entries.iter().map(|e| e.range.to_string()).collect()),
+        column("bases", "letters without accent; 0: the character itself", entries.iter().map(|e| hex(e.base)).collect()),
+        column("lowers", "lower-case letters; 0: the character itself", entries.iter().map(|e| hex(e.lower)).collect()),
+        column("packedWords", "the four of them in one word (Packed)", entries.iter().map(packed).collect()),
     ]
 }
 
 // One constant to a line with its code point, which is also how the kit's formatter lays an array out.
-fn rattle(columns: &[Column]) -> String {
+fn rattle(entries: &[Class]) -> String {
     let mut out = String::from(
-        "// The built-in table of U+0000 to U+024F: a flag word, a range, a base and a lower-case letter for each code point.\n\
+        "// The built-in table of U+0000 to U+024F: flag word, range, base and lower-case letter of each code point, in one word (specs/Packed.antt).\n\
          // Written by the oracle (oracle/harness/builtin.rs); specs/Words.antt has the same numbers. Do not edit either: see oracle/README.md.\n",
     );
-    for c in columns {
-        write!(out, "\n// {}\npub const {}: [u32; {}] = [\n", c.says, c.constant, c.words.len()).unwrap();
-        for (n, w) in c.words.iter().enumerate() {
-            writeln!(out, "    {w}, // U+{n:04X}").unwrap();
-        }
-        out += "];\n";
+    write!(out, "\npub const WORDS: [u64; {}] = [\n", entries.len()).unwrap();
+    for (n, e) in entries.iter().enumerate() {
+        writeln!(out, "    {}, // U+{n:04X}", packed(e)).unwrap();
     }
-    out
+    out + "];\n"
 }
 
 fn antt(columns: &[Column]) -> String {
     let mut out = String::from(
-        "-- The built-in table of U+0000 to U+024F (01, \"Tables\"), as four lists: the same numbers as the constants of src/words.rt.\n\
+        "-- The built-in table of U+0000 to U+024F (01, \"Tables\"), as four lists, and as the words of src/words.rt.\n\
          -- Written by the oracle (oracle/harness/builtin.rs) from the crate's own answers. Do not edit either: see oracle/README.md.\n\
          -- Assumes nothing.\n\
          use Prim.Native.Nat.{ℕ}\n\
@@ -63,8 +71,8 @@ fn antt(columns: &[Column]) -> String {
 
 // The names end in .txt, since the kit refuses a Rattle or antt file that stands in no crate.
 pub fn write(dir: &str) -> std::io::Result<()> {
-    let columns = columns();
+    let entries = entries();
     std::fs::create_dir_all(dir)?;
-    std::fs::write(format!("{dir}/words.rt.txt"), rattle(&columns))?;
-    std::fs::write(format!("{dir}/Words.antt.txt"), antt(&columns))
+    std::fs::write(format!("{dir}/words.rt.txt"), rattle(&entries))?;
+    std::fs::write(format!("{dir}/Words.antt.txt"), antt(&columns(&entries)))
 }

@@ -72,7 +72,7 @@ lowers-tested : (p : ℕ) → p < length lowers → T (lowerTest p (getD lowers 
 unfolding lowerTest scalar lowers
 lowers-tested = at lowerTest lowers tt
 
-so : (b : Bool) → T b → b ≡ true
+pub so : (b : Bool) → T b → b ≡ true
 so true t = refl
 so false t = absurd t
 

@@ -3,11 +3,11 @@
 ghost use mathlib.Core.Path.{_≡_};
 ghost use Prim.Native.Nat.{_<_};
 ghost use Rattle.bits.specs.Limits.{BUILTIN-END};
+ghost use Rattle.builtin.specs.Packed.{unpack};
 ghost use Rattle.builtin.specs.Table.{entryAt};
-use crate::words::BASES;
-use crate::words::FLAGS;
-use crate::words::LOWERS;
-use crate::words::RANGES;
+ghost use Rattle.builtin.specs.Words.{packedWords};
+use crate::words::WORDS;
+use bits::flags::FLAGS_END;
 
 pub mod words;
 
@@ -19,16 +19,35 @@ pub struct Entry {
     pub lower: u32,
 }
 
-// The table's entry of a code point.
-pub fn entry_at(point: u32) -> Entry
-    requires { ⌜ point < BUILTIN-END ⌝ }
+// Where a word's fields begin, each a power of two: the flags lowest, then the range, the base and the lower-case letter.
+const RANGE_AT: u64 = FLAGS_END as u64;
+
+const BASE_AT: u64 = 0x1_0000_0000;
+
+const LOWER_AT: u64 = 0x1_0000_0000_0000;
+
+// The table. Rattle makes it anew, word by word, wherever it is named: a caller with a loop makes it once and lends it to `entry_in`.
+pub fn table() -> [u64; 592]
+    ensures { λ r. ⌜ r ≡ packedWords ⌝ }
+{
+    WORDS
+}
+
+fn unpacked(word: u64) -> Entry
+    ensures { λ r. ⌜ r ≡ unpack word ⌝ }
+{
+    Entry {
+        flags: (word % RANGE_AT) as u32,
+        range: (word / RANGE_AT % (BASE_AT / RANGE_AT)) as u32,
+        base: (word / BASE_AT % (LOWER_AT / BASE_AT)) as u32,
+        lower: (word / LOWER_AT) as u32,
+    }
+}
+
+// The entry of a code point, of the table that a caller has made.
+pub fn entry_in(table: &[u64; 592], point: u32) -> Entry
+    requires { ⌜ (point < BUILTIN-END) × (now table ≡ packedWords) ⌝ }
     ensures { λ r. ⌜ r ≡ entryAt point ⌝ }
 {
-    let i = point as usize;
-    Entry {
-        flags: FLAGS[i],
-        range: RANGES[i],
-        base: BASES[i],
-        lower: LOWERS[i],
-    }
+    unpacked(table[point as usize])
 }

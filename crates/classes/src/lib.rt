@@ -5,6 +5,7 @@ ghost use Prim.Native.Nat.{_≤_, _<_};
 ghost use lib.Dec.{eqb};
 ghost use lib.ListN.{length};
 ghost use Rattle.bits.specs.Limits.{BUILTIN-END, LAST-RANGE, PAIR-BYTES};
+ghost use Rattle.builtin.specs.Words.{packedWords};
 ghost use Rattle.records.specs.Records.{goodTable};
 ghost use Rattle.classes.specs.Lookup.{orSelf, builtinClass, lentClass, classOf};
 ghost use Rattle.classes.specs.Check.{checked, refusedAt};
@@ -46,11 +47,11 @@ fn or_self(n: u32, point: u32) -> u32
     if n == 0 { point } else { n }
 }
 
-fn builtin_class(point: u32) -> Class
-    requires { ⌜ point < BUILTIN-END ⌝ }
+fn builtin_class(point: u32, table: &[u64; 592]) -> Class
+    requires { ⌜ (point < BUILTIN-END) × (now table ≡ packedWords) ⌝ }
     ensures { λ r. ⌜ r ≡ builtinClass point ⌝ }
 {
-    let e = builtin::entry_at(point);
+    let e = builtin::entry_in(table, point);
     Class {
         point,
         flags: e.flags,
@@ -79,16 +80,26 @@ fn lent_class(point: u32, classes: &[u8]) -> Found
     Found::Nothing
 }
 
-// The class of a code point: below BUILTIN_END the built-in table's, past it that of the lent record that holds it. The test of the code point
-// stands here, apart from the search, so that a caller's loop has it in line.
+// The class of a code point: below BUILTIN_END the built-in table's, past it that of the lent record that holds it. The built-in table is lent
+// too, so that a caller's loop makes it once (`builtin::table`); and the test of the code point stands here, apart from the search, so that such a
+// loop has it in line.
+pub fn look_up_in(point: u32, table: &[u64; 592], classes: &[u8]) -> Found
+    requires { ⌜ (goodTable (now classes) ≡ true) × (now table ≡ packedWords) ⌝ }
+    ensures { λ r. ⌜ r ≡ classOf (now (classes .entry)) point ⌝ }
+{
+    if point < BUILTIN_END {
+        return Found::At(builtin_class(point, table));
+    }
+    lent_class(point, classes)
+}
+
+// The same for one code point. It makes the built-in table: a thousand instructions, so not for a loop.
 pub fn look_up(point: u32, classes: &[u8]) -> Found
     requires { ⌜ goodTable (now classes) ≡ true ⌝ }
     ensures { λ r. ⌜ r ≡ classOf (now (classes .entry)) point ⌝ }
 {
-    if point < BUILTIN_END {
-        return Found::At(builtin_class(point));
-    }
-    lent_class(point, classes)
+    let table = builtin::table();
+    look_up_in(point, &table, classes)
 }
 
 fn refused(place: u32) -> Checked

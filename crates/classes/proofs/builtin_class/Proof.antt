@@ -1,12 +1,11 @@
--- The entry's fields, with 0 turned into the code point.
--- Assumes nothing.
+-- The entry's fields, with 0 turned into the code point. Assumes nothing.
 use Rattle.classes.specs.Lookup.{builtinClass}
 use borrow.Author.Needs.{needs}
 use Rattle.classes.proofs.builtin_class.Statement.{statement}
 use Rattle.classes.proofs.builtin_class.Tie as tie
 
-entry-at-requires : tie.Need-entry-at-requires
-entry-at-requires c κs = search needs
+entry-in-requires : tie.Need-entry-in-requires
+entry-in-requires c κs = search needs
 
 or-self-requires : tie.Need-or-self-requires
 or-self-requires c κs = search needs
@@ -20,4 +19,4 @@ returns c = cc
 
 pub builtin-class-spec : {M : Type 1} → statement M
 builtin-class-spec =
-    tie.close (tie.spec entry-at-requires or-self-requires or-self-requires-2 returns)
+    tie.close (tie.spec entry-in-requires or-self-requires or-self-requires-2 returns)

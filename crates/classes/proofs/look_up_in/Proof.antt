@@ -2,8 +2,8 @@
 -- Assumes nothing.
 use Rattle.classes.specs.LookupLaws.{class-builtin, class-lent}
 use borrow.Author.Needs.{needs}
-use Rattle.classes.proofs.look_up.Statement.{statement}
-use Rattle.classes.proofs.look_up.Tie as tie
+use Rattle.classes.proofs.look_up_in.Statement.{statement}
+use Rattle.classes.proofs.look_up_in.Tie as tie
 
 builtin-class-requires : tie.Need-builtin-class-requires
 builtin-class-requires c κs = search needs
@@ -17,5 +17,5 @@ lent-class-requires c κs = search needs
 returns-2 : tie.Need-returns-2
 returns-2 c = rw (class-lent _ _ (c .before .if1 .left), c .lent-class .ensures)
 
-pub look-up-spec : {M : Type 1} → statement M
-look-up-spec = tie.close (tie.spec builtin-class-requires returns lent-class-requires returns-2)
+pub look-up-in-spec : {M : Type 1} → statement M
+look-up-in-spec = tie.close (tie.spec builtin-class-requires returns lent-class-requires returns-2)
