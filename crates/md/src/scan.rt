@@ -5,6 +5,7 @@ ghost use Prim.Native.Nat.{_+_, _≤_, _<_};
 ghost use lib.ListN.{length};
 ghost use Rattle.bits.specs.First.{firstFrom};
 ghost use Rattle.bits.specs.Limits.{LONGEST-TEXT, LAST-RANGE, PAIR-BYTES};
+ghost use Rattle.builtin.specs.Words.{packedWords};
 ghost use Rattle.records.specs.Records.{goodTable};
 ghost use Rattle.plugins.specs.Detectors as detectors;
 ghost use Rattle.md.specs.Text.{checkpoint, count};
@@ -22,12 +23,12 @@ use classes::Found;
 use plugins::Detectors;
 use ratio::rounding;
 
-// What the lookup finds for the character at i.
-fn class_at(text: &[u32], i: usize, classes: &[u8]) -> Found
-    requires { ⌜ goodTable (now classes) ≡ true ⌝ }
+// What the lookup finds for the character at i, the built-in table being lent.
+fn class_at(text: &[u32], i: usize, table: &[u64; 592], classes: &[u8]) -> Found
+    requires { ⌜ (goodTable (now classes) ≡ true) × (now table ≡ packedWords) ⌝ }
     ensures { λ r. ⌜ r ≡ scans.classAt (now (classes .entry)) (now (text .entry)) i ⌝ }
 {
-    classes::look_up(char_at(text, i), classes)
+    classes::look_up_in(char_at(text, i), table, classes)
 }
 
 // One character, fed to the eight, with the pair table's bit for its range after the last one.
@@ -82,14 +83,14 @@ fn scored(s: Detectors, fed: u32, stopped: bool) -> Scored
 }
 
 // The first index from `from` on whose character has no class, or the number of characters, the newline counted.
-fn unclassed_from(text: &[u32], from: usize, classes: &[u8]) -> usize
-    requires { ⌜ (goodTable (now classes) ≡ true) × (length (now text) ≤ LONGEST-TEXT) × (from ≤ count (now text)) ⌝ }
+fn unclassed_from(text: &[u32], from: usize, table: &[u64; 592], classes: &[u8]) -> usize
+    requires { ⌜ (goodTable (now classes) ≡ true) × (length (now text) ≤ LONGEST-TEXT) × (from ≤ count (now text)) × (now table ≡ packedWords) ⌝ }
     ensures { λ r. ⌜ r ≡ firstFrom (scans.unclassed (now (classes .entry)) (now (text .entry))) (count (now (text .entry))) from ⌝ }
 {
     let n = text.len() + 1;
     let mut i = from;
     while i < n {
-        let Found::At(_) = class_at(text, i, classes) else {
+        let Found::At(_) = class_at(text, i, table, classes) else {
             return i;
         };
         i += 1;
@@ -98,11 +99,11 @@ fn unclassed_from(text: &[u32], from: usize, classes: &[u8]) -> usize
 }
 
 // The answer of a scan that stops after the character at i. The whole text is classed, past the stop too.
-fn stopped_after(s: Detectors, text: &[u32], i: usize, classes: &[u8]) -> Scored
-    requires { ⌜ (goodTable (now classes) ≡ true) × (length (now text) ≤ LONGEST-TEXT) × (i < count (now text)) × scans.Countable s ⌝ }
+fn stopped_after(s: Detectors, text: &[u32], i: usize, table: &[u64; 592], classes: &[u8]) -> Scored
+    requires { ⌜ (goodTable (now classes) ≡ true) × (length (now text) ≤ LONGEST-TEXT) × (i < count (now text)) × scans.Countable s × (now table ≡ packedWords) ⌝ }
     ensures { λ r. ⌜ r ≡ going.stoppedAfter (now (classes .entry)) (now (text .entry)) s i ⌝ }
 {
-    let bad = unclassed_from(text, i + 1, classes);
+    let bad = unclassed_from(text, i + 1, table, classes);
     if bad <= text.len() {
         return refuse(UNCLASSED, bad as u32);
     }
@@ -115,15 +116,16 @@ pub fn scan_text(text: &[u32], limit: Limit, classes: &[u8], pairs: &[u8]) -> Sc
     ensures { λ r. ⌜ r ≡ scans.scan (now (classes .entry)) (now (pairs .entry)) (now (text .entry)) limit ⌝ }
 {
     let n = text.len() + 1;
+    let table = builtin::table();
     let mut s = Detectors::start();
     let mut i = 0;
     while i < n {
-        let Found::At(c) = class_at(text, i, classes) else {
+        let Found::At(c) = class_at(text, i, &table, classes) else {
             return refuse(UNCLASSED, i as u32);
         };
         s = fed(s, c, pairs);
         if is_over(s, text.len(), i, limit) {
-            return stopped_after(s, text, i, classes);
+            return stopped_after(s, text, i, &table, classes);
         }
         i += 1;
     }

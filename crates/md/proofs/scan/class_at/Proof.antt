@@ -7,12 +7,12 @@ use Rattle.md.proofs.scan.class_at.Tie as tie
 char-at-requires : tie.Need-char-at-requires
 char-at-requires c κs = search needs
 
-look-up-requires : tie.Need-look-up-requires
-look-up-requires c κs = search needs
+look-up-in-requires : tie.Need-look-up-in-requires
+look-up-in-requires c κs = search needs
 
 returns : tie.Need-returns
 unfolding classAt
 returns c = cc
 
 pub class-at-spec : {M : Type 1} → statement M
-class-at-spec = tie.close (tie.spec char-at-requires look-up-requires returns)
+class-at-spec = tie.close (tie.spec char-at-requires look-up-in-requires returns)

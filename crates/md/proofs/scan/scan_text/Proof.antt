@@ -1,4 +1,5 @@
--- The invariant: the state is that after i characters, and both the stop and the first unclassed character are still to be found from i on. Assumes nothing.
+-- The invariant: the state is that after i characters, and both the stop and the first unclassed character are still to be found from i on.
+-- Assumes nothing.
 use Prim.Native.Nat.{_-_}
 use mathlib.Core.Path.{sym, _∙_}
 use native.Mathlib.Omega.{arith}
@@ -8,13 +9,16 @@ use Rattle.md.proofs.scan.scan_text.Statement.{statement}
 use Rattle.md.proofs.scan.scan_text.Tie as tie
 
 abbrev Inv-loop : tie.InvT-loop
-Inv-loop text limit classes pairs n s₀ i₀ s i = Going classes pairs text limit n s i
+Inv-loop text limit classes pairs n table s₀ i₀ s i = Going classes pairs text limit n s i
 
 abbrev μ-loop : tie.MeasureT-loop
-μ-loop text limit classes pairs n s₀ i₀ s i = n - i
+μ-loop text limit classes pairs n table s₀ i₀ s i = n - i
 
 add-n : tie.Need-add-n Inv-loop μ-loop
 add-n c = omega arith
+
+table-requires : tie.Need-table-requires Inv-loop μ-loop
+table-requires c κs = tt
 
 start-requires : tie.Need-start-requires Inv-loop μ-loop
 start-requires c κs = tt
@@ -23,7 +27,9 @@ loop-holds : tie.Need-loop-holds Inv-loop μ-loop
 loop-holds c = going-start _ _ _ _ _ (c .start .ensures)
 
 class-at-requires : tie.Need-class-at-requires Inv-loop μ-loop
-class-at-requires c κs = c .before .before .before .before .before .before .pre .good
+class-at-requires c κs =
+    let turn = c .before in
+    (turn .before .before .before .before .before .before .before .pre .good, turn .before .before .before .table .ensures)
 
 enum-known-c : tie.Need-enum-known-c Inv-loop μ-loop
 enum-known-c c = c .match .keys1
@@ -39,15 +45,15 @@ refuse-requires c κs = tt
 
 returns : tie.Need-returns Inv-loop μ-loop
 returns c =
-    let turn = c .before .before .before .before in
+    let turn = c .before .before .before .before .before in
     c .refuse .ensures
     ∙ going-missing _ _ _ _ (turn .before .loop .inv) (turn .loop-test .taken)
     (sym (c .before .before .before .class-at .ensures) ∙ c .before .enum-told .given .1)
 
 fed-requires : tie.Need-fed-requires Inv-loop μ-loop
 fed-requires c κs =
-    let turn = c .before .before .before .before in
-    let entry = turn .before .before .before .before .before .before in
+    let turn = c .before .before .before .before .before in
+    let entry = turn .before .before .before .before .before .before .before in
     let going = turn .before .loop .inv in (
       going-room _ _ _ _ going (omega arith),
       entry .pre .fits,
@@ -57,18 +63,19 @@ fed-requires c κs =
 
 is-over-requires : tie.Need-is-over-requires Inv-loop μ-loop
 is-over-requires c κs =
-    let turn = c .before .before .before .before .before in
-    let entry = turn .before .before .before .before .before .before in
+    let fed = c in
+    let turn = fed .before .before .before .before .before .before in
+    let entry = turn .before .before .before .before .before .before .before in
     fed-countable _ _ _ _ (turn .before .loop .inv) _ _ (turn .loop-test .taken)
-    (sym (c .before .before .before .before .class-at .ensures) ∙ c .before .before .c .given .1)
-    (c .fed .ensures)
+    (sym (fed .before .before .before .before .class-at .ensures) ∙ fed .before .before .c .given .1)
+    (fed .fed .ensures)
     (omega (arith, entry .pre .short))
 
 stopped-after-requires : tie.Need-stopped-after-requires Inv-loop μ-loop
 stopped-after-requires c κs =
-    let fed = c .before .before in
-    let turn = fed .before .before .before .before .before in
-    let entry = turn .before .before .before .before .before .before in (
+    let fed = c .before .before .before in
+    let turn = fed .before .before .before .before .before .before in
+    let entry = turn .before .before .before .before .before .before .before in (
       entry .pre .good,
       entry .pre .short,
       turn .loop-test .taken,
@@ -76,25 +83,27 @@ stopped-after-requires c κs =
           (sym (fed .before .before .before .before .class-at .ensures) ∙ fed .before .before .c .given .1)
           (fed .fed .ensures)
           (omega (arith, entry .pre .short)),
+      turn .before .before .before .table .ensures,
     )
 
 returns-2 : tie.Need-returns-2 Inv-loop μ-loop
 returns-2 c =
-    let fed = c .before .before .before in
-    let turn = fed .before .before .before .before .before in
+    let fed = c .before .before .before .before in
+    let turn = fed .before .before .before .before .before .before in
     c .stopped-after .ensures
     ∙ going-stopped _ _ _ _ (turn .before .loop .inv) _ _ (turn .loop-test .taken)
     (sym (fed .before .before .before .before .class-at .ensures) ∙ fed .before .before .c .given .1)
     (fed .fed .ensures)
     _
-    (c .before .before .is-over .ensures)
-    (c .before .if1 .taken)
+    (c .before .before .before .is-over .ensures)
+    (c .before .before .if1 .taken)
 
 add-i : tie.Need-add-i Inv-loop μ-loop
 add-i c =
     let fed = c .before .before in
-    let turn = fed .before .before .before .before .before in
-    omega (arith, turn .loop-test .taken, turn .before .before .before .before .before .before .pre .short)
+    let turn = fed .before .before .before .before .before .before in
+    let entry = turn .before .before .before .before .before .before .before in
+    omega (arith, turn .loop-test .taken, entry .pre .short)
 
 loop-less : tie.Need-loop-less Inv-loop μ-loop
 loop-less c = omega arith
@@ -102,7 +111,7 @@ loop-less c = omega arith
 loop-again : tie.Need-loop-again Inv-loop μ-loop
 loop-again c =
     let fed = c .before .before in
-    let turn = fed .before .before .before .before .before in
+    let turn = fed .before .before .before .before .before .before in
     going-on _ _ _ _ (turn .before .loop .inv) _ _ (turn .loop-test .taken)
     (sym (fed .before .before .before .before .class-at .ensures) ∙ fed .before .before .c .given .1)
     (fed .fed .ensures)
@@ -126,6 +135,7 @@ scan-text-spec =
     Inv-loop
     μ-loop
     add-n
+    table-requires
     start-requires
     loop-holds
     class-at-requires

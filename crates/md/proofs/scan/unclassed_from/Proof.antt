@@ -9,10 +9,10 @@ use Rattle.md.proofs.scan.unclassed_from.Statement.{statement}
 use Rattle.md.proofs.scan.unclassed_from.Tie as tie
 
 abbrev Inv-loop : tie.InvT-loop
-Inv-loop text from classes n i₀ i = (i ≤ n) × (firstFrom (unclassed classes text) n i ≡ firstFrom (unclassed classes text) n from)
+Inv-loop text from table classes n i₀ i = (i ≤ n) × (firstFrom (unclassed classes text) n i ≡ firstFrom (unclassed classes text) n from)
 
 abbrev μ-loop : tie.MeasureT-loop
-μ-loop text from classes n i₀ i = n - i
+μ-loop text from table classes n i₀ i = n - i
 
 add-n : tie.Need-add-n Inv-loop μ-loop
 add-n c = omega arith
@@ -21,7 +21,9 @@ loop-holds : tie.Need-loop-holds Inv-loop μ-loop
 loop-holds c = (omega arith, refl)
 
 class-at-requires : tie.Need-class-at-requires Inv-loop μ-loop
-class-at-requires c κs = c .before .before .before .before .pre .0
+class-at-requires c κs =
+    let entry = c .before .before .before .before in
+    (entry .pre .0, entry .pre .3)
 
 enum-told : tie.Need-enum-told Inv-loop μ-loop
 enum-told c = c .match .keys1
