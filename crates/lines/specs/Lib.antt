@@ -1,0 +1,3 @@
+pub mod Rooms
+pub mod ScoreUtf8
+pub mod ScoreUtf8Laws
