@@ -13,7 +13,7 @@ use borrow.Author.Tests.{ne-eqb}
 use Rattle.bits.specs.Limits.{LAST-RANGE, RANGES}
 use Rattle.layers.specs.Numbers.{layerFor, keysWith, numbersFrom, keysFrom, numbers, keysOf}
 use Rattle.layers.specs.NumbersLaws.{Below, layer-within, keys-old, keys-new, numbers-length, key-fresh, keys-start, keys-marks}
-use Rattle.layers.specs.Over.{over, over-nothing, over-length, over-more, over-after}
+use Rattle.layers.specs.Over.{over, over-nothing, over-length, over-part, over-beyond, over-more, over-after}
 use Rattle.layers.specs.Few.{Marks, marks-room, marks-few}
 use Rattle.layers.specs.Looking.{below-more}
 
@@ -198,3 +198,22 @@ module _ (pairs : List ℕ) (n : ℕ) (w : List ℕ) where
               count = rw made (omega (arith, length-append (take c keys) (b ∷ []), g .count));
               small = rw made (below-more (take c keys) b (g .small) r);
             }
+
+-- ---- for callers: what stands in the work area afterwards
+module _ (pairs : List ℕ) (n : ℕ) (w : List ℕ) {v : List ℕ} {c : ℕ} (s : Split pairs n w v c) (z : n ≤ length w) where
+  as-many : length (numbers pairs (take n w)) ≡ n
+  as-many = numbers-length pairs [] (take n w) ∙ length-take-le n w z
+
+  fits : 0 + length (numbers pairs (take n w)) ≤ length w
+  fits = omega (arith, as-many)
+
+  pub split-size : length v ≡ length w
+  split-size = ap length (s .numbers) ∙ over-length w 0 (numbers pairs (take n w)) fits
+
+  pub split-numbers : take n v ≡ numbers pairs (take n w)
+  split-numbers =
+      ap (λ (m : ℕ). take m v) (sym as-many) ∙ ap (take (length (numbers pairs (take n w)))) (s .numbers)
+      ∙ over-part w 0 (numbers pairs (take n w)) fits
+
+  pub split-back : drop n v ≡ drop n w
+  split-back = rw (s .numbers) (over-beyond w 0 (numbers pairs (take n w)) fits n (omega (arith, as-many)))

@@ -9,3 +9,4 @@ pub mod Area
 pub mod Meeting
 pub mod Gathering
 pub mod Settling
+pub mod RankLaws
