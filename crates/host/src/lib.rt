@@ -5,6 +5,7 @@ ghost use lib.ListN.{length};
 ghost use Rattle.classes.specs.Check.{checked};
 ghost use Rattle.utf8.specs.Answer.{answer, outAfter};
 ghost use Rattle.md.specs.MessRatio.{messRatio, messRatioDefault};
+ghost use Rattle.lines.specs.ScoreUtf8.{messRatioUtf8, messRatioUtf8Default};
 ghost use Rattle.chooser.specs.Choose.{verdictOf};
 ghost use Rattle.host.specs.Host.{hostChecked, hostRead, hostScore, hostVerdict};
 use flat::flat_checked;
@@ -86,6 +87,31 @@ pub extern "C" fn drasumira_score_default(text: &[u32], classes: &[u8], pairs: &
     ensures { λ r. ⌜ r ≡ hostScore (messRatioDefault (now (text .entry)) (now (classes .entry)) (now (pairs .entry))) ⌝ }
 {
     flat_scored(md::mess_ratio_default(text, classes, pairs))
+}
+
+// The mess ratio of the text that UTF-8 bytes are: read and scored in one call.
+#[no_mangle]
+pub extern "C" fn drasumira_score_utf8(
+    text: &[u8],
+    threshold: f32,
+    classes: &[u8],
+    pairs: &[u8],
+) -> HostScore
+    ensures { λ r. ⌜ r ≡ hostScore (messRatioUtf8 (now (text .entry)) threshold (now (classes .entry)) (now (pairs .entry))) ⌝ }
+{
+    flat_scored(lines::mess_ratio_utf8(text, threshold, classes, pairs))
+}
+
+// The same at the default threshold.
+#[no_mangle]
+pub extern "C" fn drasumira_score_utf8_default(
+    text: &[u8],
+    classes: &[u8],
+    pairs: &[u8],
+) -> HostScore
+    ensures { λ r. ⌜ r ≡ hostScore (messRatioUtf8Default (now (text .entry)) (now (classes .entry)) (now (pairs .entry))) ⌝ }
+{
+    flat_scored(lines::mess_ratio_utf8_default(text, classes, pairs))
 }
 
 // Which of two texts is the more readable, or which was refused.
