@@ -1,0 +1,16 @@
+-- The flat form of the one call's answer. Assumes nothing.
+use borrow.Author.Needs.{needs}
+use Rattle.host.proofs.drasumira_verdict.Statement.{statement}
+use Rattle.host.proofs.drasumira_verdict.Tie as tie
+
+verdict-requires : tie.Need-verdict-requires
+verdict-requires c κs = search needs
+
+flat-judged-requires : tie.Need-flat-judged-requires
+flat-judged-requires c κs = search needs
+
+returns : tie.Need-returns
+returns c = cc
+
+pub drasumira-verdict-spec : {M : Type 1} → statement M
+drasumira-verdict-spec = tie.close (tie.spec verdict-requires flat-judged-requires returns)

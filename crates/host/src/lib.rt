@@ -1,0 +1,128 @@
+// What a host calls: numbers and slices in, a flat struct out, by the C ABI. Each entry is one call of the library and the flat form of
+// its answer.
+ghost use mathlib.Core.Path.{_≡_};
+ghost use lib.ListN.{length};
+ghost use Rattle.classes.specs.Check.{checked};
+ghost use Rattle.utf8.specs.Answer.{answer, outAfter};
+ghost use Rattle.md.specs.MessRatio.{messRatio, messRatioDefault};
+ghost use Rattle.lines.specs.ScoreUtf8.{messRatioUtf8, messRatioUtf8Default};
+ghost use Rattle.chooser.specs.Choose.{verdictOf};
+ghost use Rattle.host.specs.Host.{hostChecked, hostRead, hostScore, hostVerdict};
+use flat::flat_checked;
+use flat::flat_judged;
+use flat::flat_read;
+use flat::flat_scored;
+
+mod flat;
+
+// The answer of reading, and of a table's check: a refusal's number and place, or zeros and the count.
+#[repr(C)]
+pub struct HostRead {
+    pub number: u32,
+    pub place: u32,
+    pub count: u32,
+}
+
+// The answer of scoring: a refusal's number and place, the eight ratios in md.rs's order, their sum, the characters fed, and 1 where the
+// scan stopped early.
+#[repr(C)]
+pub struct HostScore {
+    pub number: u32,
+    pub place: u32,
+    pub symbols: f32,
+    pub accents: f32,
+    pub unprintable: f32,
+    pub ranges: f32,
+    pub doubled: f32,
+    pub words: f32,
+    pub stops: f32,
+    pub archaic: f32,
+    pub sum: f32,
+    pub fed: u32,
+    pub stopped: u32,
+}
+
+// The verdict: the text taken and the text refused, 1 or 2, each 0 for none, and the refusal's number and place.
+#[repr(C)]
+pub struct HostVerdict {
+    pub taken: u32,
+    pub refused: u32,
+    pub number: u32,
+    pub place: u32,
+}
+
+// Whether a class table is good: the number of its records, or refusal 5 and its place.
+#[no_mangle]
+pub extern "C" fn drasumira_check_classes(classes: &[u8]) -> HostRead
+    ensures { λ r. ⌜ r ≡ hostChecked (checked (now (classes .entry))) ⌝ }
+{
+    flat_checked(classes::check_classes(classes))
+}
+
+// The code points of UTF-8 bytes, into the first places of out.
+#[no_mangle]
+pub extern "C" fn drasumira_read(bytes: &[u8], out: &mut [u32]) -> HostRead
+    ensures { λ r. ⌜ r ≡ hostRead (answer (now (bytes .entry)) (length (now (out .entry)))) ⌝ }
+    ensures { λ _. ⌜ now (out .exit) ≡ outAfter (now (bytes .entry)) (now (out .entry)) ⌝ }
+{
+    flat_read(utf8::read_utf8(bytes, out))
+}
+
+// The mess ratio of a text.
+#[no_mangle]
+pub extern "C" fn drasumira_score(
+    text: &[u32],
+    threshold: f32,
+    classes: &[u8],
+    pairs: &[u8],
+) -> HostScore
+    ensures { λ r. ⌜ r ≡ hostScore (messRatio (now (text .entry)) threshold (now (classes .entry)) (now (pairs .entry))) ⌝ }
+{
+    flat_scored(md::mess_ratio(text, threshold, classes, pairs))
+}
+
+// The same at the default threshold.
+#[no_mangle]
+pub extern "C" fn drasumira_score_default(text: &[u32], classes: &[u8], pairs: &[u8]) -> HostScore
+    ensures { λ r. ⌜ r ≡ hostScore (messRatioDefault (now (text .entry)) (now (classes .entry)) (now (pairs .entry))) ⌝ }
+{
+    flat_scored(md::mess_ratio_default(text, classes, pairs))
+}
+
+// The mess ratio of the text that UTF-8 bytes are: read and scored in one call.
+#[no_mangle]
+pub extern "C" fn drasumira_score_utf8(
+    text: &[u8],
+    threshold: f32,
+    classes: &[u8],
+    pairs: &[u8],
+) -> HostScore
+    ensures { λ r. ⌜ r ≡ hostScore (messRatioUtf8 (now (text .entry)) threshold (now (classes .entry)) (now (pairs .entry))) ⌝ }
+{
+    flat_scored(lines::mess_ratio_utf8(text, threshold, classes, pairs))
+}
+
+// The same at the default threshold.
+#[no_mangle]
+pub extern "C" fn drasumira_score_utf8_default(
+    text: &[u8],
+    classes: &[u8],
+    pairs: &[u8],
+) -> HostScore
+    ensures { λ r. ⌜ r ≡ hostScore (messRatioUtf8Default (now (text .entry)) (now (classes .entry)) (now (pairs .entry))) ⌝ }
+{
+    flat_scored(lines::mess_ratio_utf8_default(text, classes, pairs))
+}
+
+// Which of two texts is the more readable, or which was refused.
+#[no_mangle]
+pub extern "C" fn drasumira_verdict(
+    first: &[u32],
+    second: &[u32],
+    classes: &[u8],
+    pairs: &[u8],
+) -> HostVerdict
+    ensures { λ r. ⌜ r ≡ hostVerdict (verdictOf (now (first .entry)) (now (second .entry)) (now (classes .entry)) (now (pairs .entry))) ⌝ }
+{
+    flat_judged(chooser::verdict(first, second, classes, pairs))
+}

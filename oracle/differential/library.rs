@@ -1,0 +1,179 @@
+// The proved library, called by the C ABI, with every lent slice between canaries.
+#[repr(C)]
+#[derive(Clone, Copy, Debug, Default, PartialEq)]
+pub struct HostRead {
+    pub number: u32,
+    pub place: u32,
+    pub count: u32,
+}
+
+#[repr(C)]
+#[derive(Clone, Copy, Debug, Default)]
+pub struct HostScore {
+    pub number: u32,
+    pub place: u32,
+    pub ratios: [f32; 8],
+    pub sum: f32,
+    pub fed: u32,
+    pub stopped: u32,
+}
+
+// Two answers are the same where every bit is.
+impl PartialEq for HostScore {
+    fn eq(&self, other: &HostScore) -> bool {
+        self.words() == other.words()
+    }
+}
+
+impl HostScore {
+    pub fn words(&self) -> [u32; 13] {
+        let r = self.ratios.map(f32::to_bits);
+        [self.number, self.place, r[0], r[1], r[2], r[3], r[4], r[5], r[6], r[7], self.sum.to_bits(), self.fed, self.stopped]
+    }
+
+    pub fn shown(&self) -> String {
+        let r: Vec<String> = self.ratios.iter().map(|x| format!("{:08X}", x.to_bits())).collect();
+        format!(
+            "number {} place {} ratios {} sum {:08X} fed {} stopped {}",
+            self.number,
+            self.place,
+            r.join(" "),
+            self.sum.to_bits(),
+            self.fed,
+            self.stopped
+        )
+    }
+}
+
+#[repr(C)]
+#[derive(Clone, Copy, Debug, Default, PartialEq)]
+pub struct HostVerdict {
+    pub taken: u32,
+    pub refused: u32,
+    pub number: u32,
+    pub place: u32,
+}
+
+// A struct of more than 16 bytes comes back through the first pointer, which is also returned.
+unsafe extern "C" {
+    fn drasumira_check_classes(classes: *const u8, n: usize) -> HostRead;
+    fn drasumira_read(bytes: *const u8, n: usize, out: *mut u32, room: usize) -> HostRead;
+    fn drasumira_score(
+        told: *mut HostScore,
+        text: *const u32,
+        n: usize,
+        threshold: f32,
+        classes: *const u8,
+        classes_n: usize,
+        pairs: *const u8,
+        pairs_n: usize,
+    ) -> *mut HostScore;
+    fn drasumira_score_default(
+        told: *mut HostScore,
+        text: *const u32,
+        n: usize,
+        classes: *const u8,
+        classes_n: usize,
+        pairs: *const u8,
+        pairs_n: usize,
+    ) -> *mut HostScore;
+    fn drasumira_verdict(
+        first: *const u32,
+        first_n: usize,
+        second: *const u32,
+        second_n: usize,
+        classes: *const u8,
+        classes_n: usize,
+        pairs: *const u8,
+        pairs_n: usize,
+    ) -> HostVerdict;
+}
+
+const MARGIN: usize = 32;
+
+// A copy of a list between two margins of canaries.
+pub struct Guarded<T> {
+    all: Vec<T>,
+    was: Vec<T>,
+}
+
+impl<T: Copy + PartialEq> Guarded<T> {
+    pub fn new(list: &[T], canary: T) -> Guarded<T> {
+        let mut all = vec![canary; MARGIN];
+        all.extend_from_slice(list);
+        all.extend(std::iter::repeat_n(canary, MARGIN));
+        Guarded { was: all.clone(), all }
+    }
+
+    pub fn list(&self) -> &[T] {
+        &self.all[MARGIN..self.all.len() - MARGIN]
+    }
+
+    fn list_mut(&mut self) -> &mut [T] {
+        let end = self.all.len() - MARGIN;
+        &mut self.all[MARGIN..end]
+    }
+
+    // Whether list and margins are as they were.
+    pub fn whole(&self) -> bool {
+        self.all == self.was
+    }
+
+    // Whether the margins are as they were, and the list is this one.
+    pub fn holds(&self, list: &[T]) -> bool {
+        let end = self.all.len() - MARGIN;
+        self.all[..MARGIN] == self.was[..MARGIN] && self.all[end..] == self.was[end..] && self.list() == list
+    }
+}
+
+pub const BYTE: u8 = 0xA5;
+pub const WORD: u32 = 0xA5C3_0F5A;
+
+pub fn text_of(points: &[u32]) -> Guarded<u32> {
+    Guarded::new(points, WORD)
+}
+
+// A class table and a pair table, lent over and over; `whole` says whether a call changed one.
+pub struct Lent {
+    pub classes: Guarded<u8>,
+    pub pairs: Guarded<u8>,
+}
+
+impl Lent {
+    pub fn new(classes: &[u8], pairs: &[u8]) -> Lent {
+        Lent { classes: Guarded::new(classes, BYTE), pairs: Guarded::new(pairs, BYTE) }
+    }
+
+    pub fn whole(&self) -> bool {
+        self.classes.whole() && self.pairs.whole()
+    }
+}
+
+pub fn check_classes(classes: &[u8]) -> HostRead {
+    unsafe { drasumira_check_classes(classes.as_ptr(), classes.len()) }
+}
+
+pub fn read(bytes: &[u8], out: &mut Guarded<u32>) -> HostRead {
+    let out = out.list_mut();
+    unsafe { drasumira_read(bytes.as_ptr(), bytes.len(), out.as_mut_ptr(), out.len()) }
+}
+
+// No threshold: the call for the default one.
+pub fn score(text: &[u32], threshold: Option<f32>, lent: &Lent) -> HostScore {
+    let mut told = HostScore { number: WORD, ..HostScore::default() };
+    let (c, p) = (lent.classes.list(), lent.pairs.list());
+    let at: *mut HostScore = &mut told;
+    let back = unsafe {
+        match threshold {
+            Some(t) => drasumira_score(at, text.as_ptr(), text.len(), t, c.as_ptr(), c.len(), p.as_ptr(), p.len()),
+            None => drasumira_score_default(at, text.as_ptr(), text.len(), c.as_ptr(), c.len(), p.as_ptr(), p.len()),
+        }
+    };
+    assert_eq!(back, at, "the pointer that a large struct comes back through is returned");
+    told
+}
+
+pub fn verdict(first: &[u32], second: &[u32], lent: &Lent) -> HostVerdict {
+    let (c, p) = (lent.classes.list(), lent.pairs.list());
+    unsafe { drasumira_verdict(first.as_ptr(), first.len(), second.as_ptr(), second.len(), c.as_ptr(), c.len(), p.as_ptr(), p.len()) }
+}

@@ -1,0 +1,465 @@
+// oracle/differential/run quick|full [SEED]: the oracle and the proved library in one process, on the same texts, thresholds and tables.
+// Compared: every bit of every ratio and of the sum, fed, stopped, number, place, and every lent byte. Where 01 refuses, what is expected
+// comes from causes.rs, since the oracle refuses nothing. The first difference is printed as the smallest text found, with both answers,
+// and ends the run with status 1.
+mod causes;
+mod library;
+mod random;
+mod tables;
+mod texts;
+
+use library::{Guarded, HostScore, HostVerdict, Lent, text_of};
+use oracle::open::LENT;
+use random::Random;
+use std::time::Instant;
+use tables::{BUILTIN_END, PAIR_BYTES, Record};
+use texts::{Alphabet, BOUNDARIES};
+
+const SEED: u64 = 20_261_115;
+const LONGEST_TEXT: usize = 65_536;
+const LONGEST_BYTES: usize = 262_144;
+const TABLES_LOOKED_AT_EVERY: u64 = 1_024;
+const PROGRESS_EVERY: u64 = 1_000_000;
+
+struct Run {
+    seed: u64,
+    full: bool,
+    cases: u64,
+    refused: u64,
+    stopped: u64,
+    random: Random,
+    phase: &'static str,
+    began: (Instant, u64),
+}
+
+fn chars(text: &[u32]) -> Vec<char> {
+    text.iter().map(|p| char::from_u32(*p).expect("a scalar value")).collect()
+}
+
+// The oracle's answer in the library's form.
+fn oracle_score(text: &[u32], threshold: Option<f32>) -> HostScore {
+    let s = oracle::open::score(&chars(text), threshold, false);
+    let ratios: [f32; 8] = s.ratios.try_into().expect("eight ratios");
+    HostScore { number: 0, place: 0, ratios, sum: s.sum, fed: s.fed as u32, stopped: s.stopped as u32 }
+}
+
+// The sum after the first k characters.
+fn sum_after(text: &[u32], k: usize) -> f32 {
+    let newline_too = k > text.len();
+    oracle::open::score(&chars(&text[..k.min(text.len())]), Some(f32::INFINITY), !newline_too).sum
+}
+
+fn expected_score(text: &[u32], threshold: Option<f32>, classes: &[u8], pairs: &[u8]) -> HostScore {
+    match causes::scoring(text, threshold, classes, pairs) {
+        Some(refusal) => causes::refused(refusal),
+        None => oracle_score(text, threshold),
+    }
+}
+
+// The smallest text found that still differs: parts left out, larger ones first.
+fn smallest(text: &[u32], differs: impl Fn(&[u32]) -> bool) -> Vec<u32> {
+    let mut text = text.to_vec();
+    let mut part = text.len().div_ceil(2);
+    while part > 0 {
+        let mut at = 0;
+        while at < text.len() {
+            let mut less = text.clone();
+            less.drain(at..(at + part).min(text.len()));
+            if differs(&less) { text = less } else { at += part }
+        }
+        part = if part == 1 { 0 } else { part.div_ceil(2) };
+    }
+    text
+}
+
+fn hex(text: &[u32]) -> String {
+    text.iter().map(|p| format!("{p:04X}")).collect::<Vec<_>>().join(",")
+}
+
+impl Run {
+    fn times(&self, quick: usize, full: usize) -> usize {
+        if self.full { full } else { quick }
+    }
+
+    fn phase(&mut self, name: &'static str) {
+        if !self.phase.is_empty() {
+            eprintln!("{}: {} cases, {:.1} s", self.phase, self.cases - self.began.1, self.began.0.elapsed().as_secs_f32());
+        }
+        (self.phase, self.began) = (name, (Instant::now(), self.cases));
+    }
+
+    fn counted(&mut self) {
+        self.cases += 1;
+        if self.cases.is_multiple_of(PROGRESS_EVERY) {
+            eprintln!("{}: {} cases so far", self.phase, self.cases);
+        }
+    }
+
+    fn fail(&self, what: &str) -> ! {
+        println!("DIFFERENCE in {}, case {}, seed {}: {what}", self.phase, self.cases, self.seed);
+        std::process::exit(1)
+    }
+
+    // One text that all accept, scored by both.
+    fn accepted(&mut self, text: &[u32], threshold: Option<f32>, lent: &Lent) {
+        self.counted();
+        let given = text_of(text);
+        let (told, expected) = (library::score(given.list(), threshold, lent), oracle_score(text, threshold));
+        self.stopped += expected.stopped as u64;
+        if told != expected {
+            let small = smallest(text, |t| library::score(t, threshold, lent) != oracle_score(t, threshold));
+            self.fail(&format!(
+                "threshold {threshold:?}, text {}\nlibrary {}\noracle  {}",
+                hex(&small),
+                library::score(&small, threshold, lent).shown(),
+                oracle_score(&small, threshold).shown()
+            ));
+        }
+        if !given.whole() || (self.cases.is_multiple_of(TABLES_LOOKED_AT_EVERY) && !lent.whole()) {
+            self.fail(&format!("a lent slice was changed by text {}", hex(text)));
+        }
+    }
+
+    // One call that may be refused.
+    fn scored(&mut self, text: &[u32], threshold: Option<f32>, classes: &[u8], pairs: &[u8]) {
+        self.counted();
+        let (given, lent) = (text_of(text), Lent::new(classes, pairs));
+        let (told, expected) = (library::score(given.list(), threshold, &lent), expected_score(text, threshold, classes, pairs));
+        self.refused += (expected.number != 0) as u64;
+        if told != expected {
+            let small = smallest(text, |t| library::score(t, threshold, &lent) != expected_score(t, threshold, classes, pairs));
+            self.fail(&format!(
+                "threshold {threshold:?}, {} bytes of classes, {} of pairs, text {}\nlibrary  {}\nexpected {}",
+                classes.len(),
+                pairs.len(),
+                hex(&small[..small.len().min(100)]),
+                library::score(&small, threshold, &lent).shown(),
+                expected_score(&small, threshold, classes, pairs).shown()
+            ));
+        }
+        if !given.whole() || !lent.whole() {
+            self.fail(&format!("a lent slice was changed by text {}", hex(&text[..text.len().min(100)])));
+        }
+    }
+
+    fn checked(&mut self, classes: &[u8]) {
+        self.counted();
+        let given = Guarded::new(classes, library::BYTE);
+        let (told, expected) = (library::check_classes(given.list()), causes::checked(classes));
+        self.refused += (expected.number != 0) as u64;
+        if told != expected || !given.whole() {
+            self.fail(&format!("class table of {} bytes\nlibrary  {told:?}\nexpected {expected:?}", classes.len()));
+        }
+    }
+
+    fn read(&mut self, bytes: &[u8], room: usize) {
+        self.counted();
+        let before: Vec<u32> = (0..room).map(|_| self.random.next() as u32).collect();
+        let (given, mut out) = (Guarded::new(bytes, library::BYTE), Guarded::new(&before, library::WORD));
+        let told = library::read(given.list(), &mut out);
+        let (expected, after) = causes::reading(bytes, &before);
+        self.refused += (expected.number != 0) as u64;
+        if told != expected || !out.holds(&after) || !given.whole() {
+            let shown: Vec<String> = bytes.iter().take(100).map(|b| format!("{b:02X}")).collect();
+            self.fail(&format!(
+                "{} bytes, room {room}: {}\nlibrary  {told:?}\nexpected {expected:?}\nlent bytes as expected: {}",
+                bytes.len(),
+                shown.join(" "),
+                out.holds(&after) && given.whole()
+            ));
+        }
+    }
+
+    fn judged(&mut self, first: &[u32], second: &[u32], classes: &[u8], pairs: &[u8]) {
+        self.counted();
+        let (a, b, lent) = (text_of(first), text_of(second), Lent::new(classes, pairs));
+        let told = library::verdict(a.list(), b.list(), &lent);
+        let whole = |t: &[u32]| oracle_score(t, Some(f32::INFINITY)).sum;
+        let expected = causes::verdict_refusal(first, second, classes, pairs)
+            .unwrap_or_else(|| HostVerdict { taken: if whole(second) < whole(first) { 2 } else { 1 }, ..HostVerdict::default() });
+        self.refused += (expected.number != 0) as u64;
+        if told != expected || !a.whole() || !b.whole() || !lent.whole() {
+            self.fail(&format!("verdict on {} and {}\nlibrary  {told:?}\nexpected {expected:?}", hex(first), hex(second)));
+        }
+    }
+
+    // Every text of up to `most` characters over one representative of each flag word.
+    fn short_texts(&mut self, representatives: &[u32], most: u32, lent: &Lent) {
+        let n = representatives.len();
+        for length in 0..=most {
+            for mut at in 0..n.pow(length) {
+                let mut text = [0; 4];
+                for point in text.iter_mut().take(length as usize) {
+                    (*point, at) = (representatives[at % n], at / n);
+                }
+                self.accepted(&text[..length as usize], None, lent);
+            }
+        }
+    }
+
+    fn random_texts(&mut self, alphabet: &Alphabet, times: usize, lent: &Lent) {
+        for _ in 0..times {
+            let n = texts::length(&mut self.random);
+            let text = alphabet.text(&mut self.random, n);
+            let threshold = texts::threshold(&mut self.random);
+            self.accepted(&text, threshold, lent);
+        }
+    }
+
+    // Each length at and beside a boundary, with a threshold that is never reached and with others.
+    fn lengths(&mut self, alphabet: &Alphabet, times: usize, lent: &Lent) {
+        for _ in 0..times {
+            for n in BOUNDARIES {
+                let text = alphabet.text(&mut self.random, n);
+                let threshold = texts::threshold(&mut self.random);
+                self.accepted(&text, Some(1000.0), lent);
+                self.accepted(&text, threshold, lent);
+            }
+        }
+    }
+
+    fn longest(&mut self, alphabet: &Alphabet, times: usize, classes: &[u8], pairs: &[u8]) {
+        for _ in 0..times {
+            for n in LONGEST_TEXT - 1..=LONGEST_TEXT + 1 {
+                let text = alphabet.text(&mut self.random, n);
+                let lent = Lent::new(classes, pairs);
+                if n > LONGEST_TEXT { self.scored(&text, Some(1000.0), classes, pairs) } else { self.accepted(&text, Some(1000.0), &lent) }
+            }
+        }
+    }
+
+    // The threshold at the sum of a checkpoint, and the floats beside it.
+    fn at_a_checkpoint(&mut self, alphabet: &Alphabet, times: usize, lent: &Lent) {
+        for _ in 0..times {
+            let n = 31 + self.random.below(1200);
+            let text = alphabet.text(&mut self.random, n);
+            let period = if n <= 510 {
+                32
+            } else if n <= 1023 {
+                64
+            } else {
+                128
+            };
+            let checkpoints = (n + 1) / period;
+            if checkpoints == 0 {
+                continue;
+            }
+            let sum = sum_after(&text, period * (1 + self.random.below(checkpoints)));
+            for threshold in [sum, sum.next_up(), sum.next_down()] {
+                self.accepted(&text, Some(threshold), lent);
+            }
+        }
+    }
+
+    // Random good class tables and pair tables, lent to both sides, and the same tables damaged.
+    fn lent_tables(&mut self, times: usize, texts: usize) {
+        for _ in 0..times {
+            let most = [3, 40, 300][self.random.below(3)];
+            let records = tables::random_records(&mut self.random, most);
+            let (classes, pairs) = (tables::bytes(&records), tables::random_pairs(&mut self.random));
+            LENT.with_borrow_mut(|l| {
+                l.classes = Some(tables::for_oracle(&records));
+                l.pairs = Some(pairs.clone());
+            });
+            let alphabet = Alphabet::new(&records);
+            let lent = Lent::new(&classes, &pairs);
+            self.random_texts(&alphabet, texts, &lent);
+            if !lent.whole() {
+                self.fail("a lent table was changed");
+            }
+            self.checked(&classes);
+            for _ in 0..8 {
+                let mut bad = records.clone();
+                for _ in 0..1 + self.random.below(2) {
+                    tables::damage(&mut self.random, &mut bad);
+                }
+                let n = self.random.below(4);
+                let text = alphabet.text(&mut self.random, n);
+                let bad = tables::bytes(&bad);
+                self.checked(&bad);
+                if causes::classes_fault(&bad).is_some() {
+                    self.scored(&text, None, &bad, &pairs);
+                }
+            }
+            LENT.with_borrow_mut(|l| *l = oracle::open::Lent::default());
+        }
+    }
+
+    // Every set of causes of scoring at once: 1, 4, 5, 7, 6, in all 32 sets.
+    fn causes_of_scoring(&mut self, times: usize, classes: &[u8], pairs: &[u8]) {
+        let real = tables::records(classes);
+        for set in (0..times).flat_map(|_| 0..32) {
+            let has = |n: usize| set >> n & 1 == 1;
+            let n = if has(0) { LONGEST_TEXT + 1 + self.random.below(3) } else { self.random.below(60) };
+            let mut text: Vec<u32> = (0..n).map(|_| self.random.below(0x250) as u32).collect();
+            if has(4) {
+                let at = self.random.below(text.len() + 1);
+                text.insert(at, *self.random.pick(&[0xD800, 0xDFFF, 0x110000, u32::MAX, 0xDABC]));
+            }
+            let threshold = match has(1) {
+                true => Some(*self.random.pick(&[f32::NAN, -f32::NAN, f32::INFINITY, f32::NEG_INFINITY, f32::from_bits(0x7F80_0001)])),
+                false => texts::threshold(&mut self.random),
+            };
+            let bad_classes = self.bad_classes(&real);
+            let wrong = [0, 1, PAIR_BYTES - 1, PAIR_BYTES + 1, 2 * PAIR_BYTES][self.random.below(5)];
+            let bad_pairs = vec![0; wrong];
+            self.scored(&text, threshold, if has(2) { &bad_classes } else { classes }, if has(3) { &bad_pairs } else { pairs });
+        }
+    }
+
+    // A class table of a wrong length, of too many records, or with a bad record.
+    fn bad_classes(&mut self, real: &[Record]) -> Vec<u8> {
+        match self.random.below(4) {
+            0 => {
+                let mut bytes = tables::bytes(&real[..3]);
+                bytes.truncate(72 - 1 - self.random.below(23));
+                bytes
+            }
+            1 => {
+                let one = |i: u32| Record { first: 0x10000 + i, last: 0x10000 + i, flags: 0, range: 0, zero: 0, base: 0, lower: 0 };
+                tables::bytes(&(0..8193).map(one).collect::<Vec<_>>())
+            }
+            _ => {
+                let mut some = real[..1 + self.random.below(200)].to_vec();
+                while causes::classes_fault(&tables::bytes(&some)).is_none() {
+                    tables::damage(&mut self.random, &mut some);
+                }
+                tables::bytes(&some)
+            }
+        }
+    }
+
+    // Reading: texts of every script, bytes damaged, and every set of its causes.
+    fn reading(&mut self, alphabet: &Alphabet, times: usize) {
+        for _ in 0..times {
+            let n = self.random.below(90);
+            let text: String = chars(&alphabet.text(&mut self.random, n)).iter().collect();
+            let mut bytes = text.into_bytes();
+            for _ in 0..self.random.below(3) {
+                let at = self.random.below(bytes.len() + 1);
+                match self.random.below(3) {
+                    0 => bytes.truncate(at),
+                    1 => bytes.insert(at, self.random.next() as u8),
+                    _ => bytes
+                        .splice(
+                            at..at,
+                            *self.random.pick(&[
+                                [0xED, 0xA0, 0x80, 0x80],
+                                [0xF4, 0x90, 0x80, 0x80],
+                                [0xC0, 0xAF, 0xE0, 0x80],
+                                [0xF0, 0x8F, 0xBF, 0xBF],
+                            ]),
+                        )
+                        .for_each(drop),
+                }
+            }
+            let room = [n, n.saturating_sub(1), n + self.random.below(9), self.random.below(99)][self.random.below(4)];
+            self.read(&bytes, room);
+        }
+        for set in 0..16 {
+            let has = |n: usize| set >> n & 1 == 1;
+            let n = if has(0) {
+                LONGEST_BYTES + 1
+            } else if has(2) {
+                LONGEST_TEXT + 1
+            } else {
+                40
+            };
+            // where only the bytes are too many, each code point takes four of them
+            let mut bytes = if has(0) && !has(2) { "\u{10348}".repeat(LONGEST_TEXT).into_bytes() } else { vec![b'a'; n] };
+            if has(0) && !has(2) {
+                bytes.push(b'a');
+            }
+            if has(1) {
+                let at = self.random.below(bytes.len());
+                bytes[at] = 0xFF;
+            }
+            self.read(&bytes, if has(3) { 3 } else { LONGEST_BYTES + 9 });
+        }
+        for n in LONGEST_TEXT - 1..=LONGEST_TEXT + 1 {
+            self.read("é".repeat(n).as_bytes(), LONGEST_TEXT);
+        }
+        self.read("\u{10348}".repeat(LONGEST_TEXT).as_bytes(), LONGEST_TEXT);
+    }
+
+    // Verdicts on two texts, alike, alike but for newlines, or not; and every set of causes in either.
+    fn verdicts(&mut self, alphabet: &Alphabet, times: usize, classes: &[u8], pairs: &[u8]) {
+        let real = tables::records(classes);
+        for at in 0..times {
+            let (n, m) = (texts::length(&mut self.random), texts::length(&mut self.random));
+            let first = alphabet.text(&mut self.random, n);
+            let mut second = if at % 4 == 0 { first.clone() } else { alphabet.text(&mut self.random, m) };
+            second.extend(vec![0x0A; self.random.below(3)]);
+            self.judged(&first, &second, classes, pairs);
+        }
+        for set in (0..times.div_ceil(100)).flat_map(|_| 0..64) {
+            let has = |n: usize| set >> n & 1 == 1;
+            let mut texts = [vec![], vec![]];
+            for (i, text) in texts.iter_mut().enumerate() {
+                text.resize(if has(2 * i) { LONGEST_TEXT + 1 } else { 5 }, 0x61);
+                if has(2 * i + 1) {
+                    let at = self.random.below(5);
+                    text[at] = 0xD900;
+                }
+            }
+            let bad = self.bad_classes(&real);
+            let short = [0u8; 7];
+            self.judged(&texts[0], &texts[1], if has(4) { &bad } else { classes }, if has(5) { &short } else { pairs });
+        }
+    }
+}
+
+fn main() {
+    let words: Vec<String> = std::env::args().skip(1).collect();
+    let (full, seed, dir) = match words.iter().map(String::as_str).collect::<Vec<_>>()[..] {
+        [how @ ("quick" | "full"), dir] => (how == "full", SEED, dir),
+        [how @ ("quick" | "full"), dir, seed] => (how == "full", seed.parse().expect("a seed is a whole number"), dir),
+        _ => {
+            eprintln!("usage: differential quick|full TABLES [SEED]");
+            std::process::exit(2)
+        }
+    };
+    let table = |name: &str| std::fs::read(format!("{dir}/{name}.bin")).unwrap_or_else(|e| panic!("{dir}/{name}.bin: {e}"));
+    let (classes, pairs) = (table("classes"), table("pairs"));
+    let records = tables::records(&classes);
+    let alphabet = Alphabet::new(&records);
+    let kept: Vec<Record> =
+        records.iter().filter(|r| r.last >= BUILTIN_END && alphabet.representatives.contains(&r.first)).copied().collect();
+    let (real, small) = (Lent::new(&classes, &pairs), Lent::new(&tables::bytes(&kept), &pairs));
+    eprintln!("seed {seed}, {} flag words, {} records, {} kept for short texts", alphabet.representatives.len(), records.len(), kept.len());
+    let began = (Instant::now(), 0);
+    let mut run = Run { seed, full, cases: 0, refused: 0, stopped: 0, random: Random::new(seed), phase: "", began };
+    let started = Instant::now();
+
+    run.phase("short texts, all tables");
+    run.short_texts(&alphabet.representatives, run.times(2, 3) as u32, &real);
+    run.phase("short texts, their own records");
+    run.short_texts(&alphabet.representatives, run.times(3, 4) as u32, &small);
+    run.phase("texts of every script");
+    run.random_texts(&alphabet, run.times(10_000, 300_000), &real);
+    run.phase("lengths");
+    run.lengths(&alphabet, run.times(40, 2_000), &real);
+    run.phase("longest texts");
+    run.longest(&alphabet, run.times(3, 60), &classes, &pairs);
+    run.phase("thresholds at a checkpoint");
+    run.at_a_checkpoint(&alphabet, run.times(1_000, 60_000), &real);
+    run.phase("lent tables");
+    run.lent_tables(run.times(60, 3_000), 60);
+    run.phase("causes of scoring");
+    run.causes_of_scoring(run.times(20, 400), &classes, &pairs);
+    run.phase("reading");
+    run.reading(&alphabet, run.times(40_000, 1_000_000));
+    run.phase("verdicts");
+    run.verdicts(&alphabet, run.times(1_000, 30_000), &classes, &pairs);
+    run.phase("");
+    if !real.whole() || !small.whole() {
+        run.fail("a lent table was changed");
+    }
+    println!(
+        "{} cases, 0 differences ({} refused as 01 says, {} stopped early; seed {seed}, {:.0} s)",
+        run.cases,
+        run.refused,
+        run.stopped,
+        started.elapsed().as_secs_f32()
+    );
+}
