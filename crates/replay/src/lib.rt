@@ -12,6 +12,11 @@ const STDOUT: i32 = 1;
 
 const WORD: usize = 4;
 
+// The bits of +infinity, and of the sign.
+const INFINITY_BITS: u32 = 0x7F80_0000;
+
+const SIGN_BIT: u32 = 0x8000_0000;
+
 // The next case, put at the front of buf: its size, or 0 where the list has ended. A case that buf cannot hold is cut to buf's length.
 pub fn next_case(buf: &mut [u8]) -> usize
     ensures { λ r. ⌜ Fits r (now (buf .entry)) (now (buf .exit)) ⌝ }
@@ -64,6 +69,16 @@ pub fn words(buf: &[u8], from: usize, out: &mut [u32])
         out[i] = word(buf, k);
         k += 1;
         i += 1;
+    }
+}
+
+// The f32 of these bits; a NaN for every NaN's.
+pub fn float_of(bits: u32) -> f32 {
+    let zero: f32 = 0.0;
+    if bits % SIGN_BIT > INFINITY_BITS {
+        zero / zero
+    } else {
+        f32::from_bits(bits)
     }
 }
 

@@ -13,6 +13,7 @@ use ratio::kept;
 use ratio::rounding::ratios;
 use ratio::rounding::rounded;
 use ratio::rounding::sum;
+use replay::float_of;
 use replay::next_case;
 use replay::say;
 use replay::word;
@@ -36,11 +37,6 @@ const MOST_CASES: u32 = 100000;
 const MOST_NUM: u32 = 0x20_0000;
 
 const MOST_DEN: u32 = 0x2_0002;
-
-// The bits of +infinity, and of the sign.
-const INFINITY_BITS: u32 = 0x7F80_0000;
-
-const SIGN_BIT: u32 = 0x8000_0000;
 
 fn bounded(f: Fraction) -> Fraction
     ensures { λ r. ⌜ Small r ⌝ }
@@ -122,16 +118,6 @@ fn same_fractions(buf: &[u8]) -> bool {
         i += 1;
     }
     same
-}
-
-// The f32 of these bits; a NaN for every NaN's.
-fn float_of(bits: u32) -> f32 {
-    let zero: f32 = 0.0;
-    if bits % SIGN_BIT > INFINITY_BITS {
-        zero / zero
-    } else {
-        f32::from_bits(bits)
-    }
 }
 
 fn same_case(buf: &[u8]) -> bool {

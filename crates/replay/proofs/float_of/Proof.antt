@@ -4,8 +4,8 @@ use borrow.Author.Tests.{le-ltb}
 use lib.Ieee.{binary32, ones, hid, top}
 use lib.Ieee.Bits.{nanBits-above}
 use borrow.Author.Needs.{needs}
-use Rattle.replay_ratio.proofs.float_of.Statement.{statement}
-use Rattle.replay_ratio.proofs.float_of.Tie as tie
+use Rattle.replay.proofs.float_of.Statement.{statement}
+use Rattle.replay.proofs.float_of.Tie as tie
 
 float-from-bits-result : tie.Need-float-from-bits-result
 float-from-bits-result c = rw (nanBits-above binary32 (c .before .args .bits), le-ltb (ones binary32 * hid binary32) (c .before .args .bits % top binary32) (c .if1 .left)) tt
