@@ -90,22 +90,25 @@ pub fn refused((number, place): Refusal) -> HostScore {
     HostScore { number, place, ..HostScore::default() }
 }
 
+// The causes of reading that lie in the bytes, "1 (bytes), 2, 1 (code points)", or the code points.
+pub fn points(bytes: &[u8]) -> Result<Vec<u32>, Refusal> {
+    if bytes.len() > LONGEST_BYTES {
+        return Err((1, 0));
+    }
+    let text = std::str::from_utf8(bytes).map_err(|e| (2, e.valid_up_to() as u32))?;
+    let points: Vec<u32> = text.chars().map(|c| c as u32).collect();
+    if points.len() > LONGEST_TEXT { Err((1, 0)) } else { Ok(points) }
+}
+
 // "reading 1 (bytes), 2, 1 (code points), 3": the answer and the output after it.
 pub fn reading(bytes: &[u8], out: &[u32]) -> (HostRead, Vec<u32>) {
-    let refused = |number, place| (HostRead { number, place, count: 0 }, out.to_vec());
-    if bytes.len() > LONGEST_BYTES {
-        return refused(1, 0);
-    }
-    let text = match std::str::from_utf8(bytes) {
-        Err(e) => return refused(2, e.valid_up_to() as u32),
-        Ok(text) => text,
+    let refused = |(number, place)| (HostRead { number, place, count: 0 }, out.to_vec());
+    let points = match points(bytes) {
+        Err(refusal) => return refused(refusal),
+        Ok(points) => points,
     };
-    let points: Vec<u32> = text.chars().map(|c| c as u32).collect();
-    if points.len() > LONGEST_TEXT {
-        return refused(1, 0);
-    }
     if points.len() > out.len() {
-        return refused(3, 0);
+        return refused((3, 0));
     }
     let mut after = out.to_vec();
     after[..points.len()].copy_from_slice(&points);

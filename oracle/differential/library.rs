@@ -77,6 +77,25 @@ unsafe extern "C" {
         pairs: *const u8,
         pairs_n: usize,
     ) -> *mut HostScore;
+    fn drasumira_score_utf8(
+        told: *mut HostScore,
+        text: *const u8,
+        n: usize,
+        threshold: f32,
+        classes: *const u8,
+        classes_n: usize,
+        pairs: *const u8,
+        pairs_n: usize,
+    ) -> *mut HostScore;
+    fn drasumira_score_utf8_default(
+        told: *mut HostScore,
+        text: *const u8,
+        n: usize,
+        classes: *const u8,
+        classes_n: usize,
+        pairs: *const u8,
+        pairs_n: usize,
+    ) -> *mut HostScore;
     fn drasumira_verdict(
         first: *const u32,
         first_n: usize,
@@ -167,6 +186,21 @@ pub fn score(text: &[u32], threshold: Option<f32>, lent: &Lent) -> HostScore {
         match threshold {
             Some(t) => drasumira_score(at, text.as_ptr(), text.len(), t, c.as_ptr(), c.len(), p.as_ptr(), p.len()),
             None => drasumira_score_default(at, text.as_ptr(), text.len(), c.as_ptr(), c.len(), p.as_ptr(), p.len()),
+        }
+    };
+    assert_eq!(back, at, "the pointer that a large struct comes back through is returned");
+    told
+}
+
+// The same of UTF-8 bytes.
+pub fn score_utf8(bytes: &[u8], threshold: Option<f32>, lent: &Lent) -> HostScore {
+    let mut told = HostScore { number: WORD, ..HostScore::default() };
+    let (c, p) = (lent.classes.list(), lent.pairs.list());
+    let at: *mut HostScore = &mut told;
+    let back = unsafe {
+        match threshold {
+            Some(t) => drasumira_score_utf8(at, bytes.as_ptr(), bytes.len(), t, c.as_ptr(), c.len(), p.as_ptr(), p.len()),
+            None => drasumira_score_utf8_default(at, bytes.as_ptr(), bytes.len(), c.as_ptr(), c.len(), p.as_ptr(), p.len()),
         }
     };
     assert_eq!(back, at, "the pointer that a large struct comes back through is returned");

@@ -21,6 +21,12 @@ const LONGEST_BYTES: usize = 262_144;
 const TABLES_LOOKED_AT_EVERY: u64 = 1_024;
 const PROGRESS_EVERY: u64 = 1_000_000;
 
+// Lengths beside those at which the library takes a larger room for the text of bytes.
+const ROOMS: [usize; 8] = [255, 256, 257, 258, 4095, 4096, 4097, 5000];
+
+// A surrogate, a number past the last code point, an overlong form of two kinds.
+const ILL_FORMED: [[u8; 4]; 4] = [[0xED, 0xA0, 0x80, 0x80], [0xF4, 0x90, 0x80, 0x80], [0xC0, 0xAF, 0xE0, 0x80], [0xF0, 0x8F, 0xBF, 0xBF]];
+
 struct Run {
     seed: u64,
     full: bool,
@@ -166,6 +172,28 @@ impl Run {
                 bytes.len(),
                 shown.join(" "),
                 out.holds(&after) && given.whole()
+            ));
+        }
+    }
+
+    // Bytes read and scored in one call.
+    fn scored_utf8(&mut self, bytes: &[u8], threshold: Option<f32>, classes: &[u8], pairs: &[u8]) {
+        self.counted();
+        let (given, lent) = (Guarded::new(bytes, library::BYTE), Lent::new(classes, pairs));
+        let told = library::score_utf8(given.list(), threshold, &lent);
+        let expected = match causes::points(bytes) {
+            Err(refusal) => causes::refused(refusal),
+            Ok(text) => expected_score(&text, threshold, classes, pairs),
+        };
+        self.refused += (expected.number != 0) as u64;
+        if told != expected || !given.whole() || !lent.whole() {
+            let shown: Vec<String> = bytes.iter().take(100).map(|b| format!("{b:02X}")).collect();
+            self.fail(&format!(
+                "threshold {threshold:?}, {} bytes: {}\nlibrary  {}\nexpected {}",
+                bytes.len(),
+                shown.join(" "),
+                told.shown(),
+                expected.shown()
             ));
         }
     }
@@ -329,30 +357,44 @@ impl Run {
         }
     }
 
+    // The bytes of a text of n characters, in some cases damaged.
+    fn bytes_of_text(&mut self, alphabet: &Alphabet, n: usize) -> Vec<u8> {
+        let text: String = chars(&alphabet.text(&mut self.random, n)).iter().collect();
+        let mut bytes = text.into_bytes();
+        for _ in 0..self.random.below(4).saturating_sub(1) {
+            let at = self.random.below(bytes.len() + 1);
+            match self.random.below(3) {
+                0 => bytes.truncate(at),
+                1 => bytes.insert(at, self.random.next() as u8),
+                _ => bytes.splice(at..at, *self.random.pick(&ILL_FORMED)).for_each(drop),
+            }
+        }
+        bytes
+    }
+
+    // Bytes scored in one call: lengths on both sides of the rooms that the text goes through, thresholds, tables and damage of every kind.
+    fn bytes_scored(&mut self, alphabet: &Alphabet, times: usize, classes: &[u8], pairs: &[u8]) {
+        let real = tables::records(classes);
+        for at in 0..times {
+            let n = if at % 40 == 0 { *self.random.pick(&ROOMS) } else { texts::length(&mut self.random) };
+            let bytes = self.bytes_of_text(alphabet, n);
+            let threshold = if at % 16 == 1 { Some(f32::NAN) } else { texts::threshold(&mut self.random) };
+            let bad = self.bad_classes(&real);
+            let few = if at % 5 == 0 { &real[..self.random.below(2000)] } else { &real[..] };
+            let classes = if at % 9 == 0 { bad } else { tables::bytes(few) };
+            self.scored_utf8(&bytes, threshold, &classes, if at % 11 == 0 { &pairs[1..] } else { pairs });
+        }
+        for bytes in [vec![b'a'; LONGEST_TEXT + 1], vec![b'a'; LONGEST_BYTES + 1], vec![0xFF; LONGEST_BYTES + 1], vec![b'a'; LONGEST_TEXT]]
+        {
+            self.scored_utf8(&bytes, None, classes, pairs);
+        }
+    }
+
     // Reading: texts of every script, bytes damaged, and every set of its causes.
     fn reading(&mut self, alphabet: &Alphabet, times: usize) {
         for _ in 0..times {
             let n = self.random.below(90);
-            let text: String = chars(&alphabet.text(&mut self.random, n)).iter().collect();
-            let mut bytes = text.into_bytes();
-            for _ in 0..self.random.below(3) {
-                let at = self.random.below(bytes.len() + 1);
-                match self.random.below(3) {
-                    0 => bytes.truncate(at),
-                    1 => bytes.insert(at, self.random.next() as u8),
-                    _ => bytes
-                        .splice(
-                            at..at,
-                            *self.random.pick(&[
-                                [0xED, 0xA0, 0x80, 0x80],
-                                [0xF4, 0x90, 0x80, 0x80],
-                                [0xC0, 0xAF, 0xE0, 0x80],
-                                [0xF0, 0x8F, 0xBF, 0xBF],
-                            ]),
-                        )
-                        .for_each(drop),
-                }
-            }
+            let bytes = self.bytes_of_text(alphabet, n);
             let room = [n, n.saturating_sub(1), n + self.random.below(9), self.random.below(99)][self.random.below(4)];
             self.read(&bytes, room);
         }
@@ -436,21 +478,23 @@ fn main() {
     run.phase("short texts, their own records");
     run.short_texts(&alphabet.representatives, run.times(3, 4) as u32, &small);
     run.phase("texts of every script");
-    run.random_texts(&alphabet, run.times(10_000, 300_000), &real);
+    run.random_texts(&alphabet, run.times(10_000, 100_000), &real);
     run.phase("lengths");
-    run.lengths(&alphabet, run.times(40, 2_000), &real);
+    run.lengths(&alphabet, run.times(40, 500), &real);
     run.phase("longest texts");
-    run.longest(&alphabet, run.times(3, 60), &classes, &pairs);
+    run.longest(&alphabet, run.times(3, 20), &classes, &pairs);
     run.phase("thresholds at a checkpoint");
-    run.at_a_checkpoint(&alphabet, run.times(1_000, 60_000), &real);
+    run.at_a_checkpoint(&alphabet, run.times(1_000, 20_000), &real);
     run.phase("lent tables");
-    run.lent_tables(run.times(60, 3_000), 60);
+    run.lent_tables(run.times(60, 1_000), 60);
     run.phase("causes of scoring");
     run.causes_of_scoring(run.times(20, 400), &classes, &pairs);
     run.phase("reading");
     run.reading(&alphabet, run.times(40_000, 1_000_000));
+    run.phase("bytes scored in one call");
+    run.bytes_scored(&alphabet, run.times(2_000, 30_000), &classes, &pairs);
     run.phase("verdicts");
-    run.verdicts(&alphabet, run.times(1_000, 30_000), &classes, &pairs);
+    run.verdicts(&alphabet, run.times(1_000, 10_000), &classes, &pairs);
     run.phase("");
     if !real.whole() || !small.whole() {
         run.fail("a lent table was changed");

@@ -1,0 +1,227 @@
+//! How much of a text is noise: the mess ratio of charset-normalizer-rs, by a proved library.
+//!
+//! Every call answers what a written definition says for every input, refusals included; the proofs are checked when the library is built.
+//! This package is the thin part that is not proved: it hands slices to the library and names what comes back.
+//!
+//! ```
+//! use drasumira::{Tables, score};
+//! let tables = Tables::full();
+//! let told = score("A line of plain text.", None, &tables)?;
+//! assert_eq!(told.sum, 0.0);
+//! let noise = score("\u{1}\u{2}\u{3}", None, &tables)?;
+//! assert!(noise.sum > 1.0);
+//! # Ok::<(), drasumira::Refusal>(())
+//! ```
+//!
+//! Each scoring call checks the class table whole, which for a line of 80 characters costs more than the scan itself.
+mod host;
+mod refusal;
+
+pub use refusal::Refusal;
+
+/// A class table and a pair table. The class table is checked when this is made.
+#[derive(Clone, Debug)]
+pub struct Tables {
+    classes: Vec<u8>,
+    pairs: Vec<u8>,
+}
+
+impl Tables {
+    /// Takes class records of 24 bytes and a pair table of 32,768; refused as 5 or 7 where one is not good.
+    ///
+    /// ```
+    /// use drasumira::{Refusal, Tables};
+    /// assert_eq!(Tables::new(vec![0; 25], vec![0; 32768]).err(), Some(Refusal { number: 5, place: 0 }));
+    /// assert_eq!(Tables::new(vec![], vec![]).err(), Some(Refusal { number: 7, place: 0 }));
+    /// assert!(Tables::new(vec![], vec![0; 32768]).is_ok());
+    /// ```
+    pub fn new(classes: Vec<u8>, pairs: Vec<u8>) -> Result<Tables, Refusal> {
+        accepted(host::check_classes(&classes))?;
+        let tables = Tables { classes, pairs };
+        // the library's own word on the pair table
+        score("", None, &tables).map(|_| tables)
+    }
+
+    /// The tables made from charset-normalizer-rs: every scalar value from U+0250 up in 4,154 records, and its pairs of ranges.
+    pub fn full() -> Tables {
+        let classes = include_bytes!("../../tables/classes.bin").to_vec();
+        let pairs = include_bytes!("../../tables/pairs.bin").to_vec();
+        Tables::new(classes, pairs).expect("the tables that this package carries are good")
+    }
+
+    /// No class record and no suspicious pair: only U+0000 to U+024F, which the library has built in, are scored.
+    pub fn builtin_only() -> Tables {
+        Tables::new(vec![], vec![0; 32_768]).expect("a table of no records is good")
+    }
+}
+
+/// A text to score: a `&str`, code points as `&[char]`, or bytes, which are refused where they are not UTF-8. None is copied here.
+#[derive(Clone, Copy, Debug)]
+pub enum Text<'a> {
+    Bytes(&'a [u8]),
+    Chars(&'a [char]),
+}
+
+impl<'a> From<&'a str> for Text<'a> {
+    fn from(text: &'a str) -> Text<'a> {
+        Text::Bytes(text.as_bytes())
+    }
+}
+
+impl<'a> From<&'a [u8]> for Text<'a> {
+    fn from(text: &'a [u8]) -> Text<'a> {
+        Text::Bytes(text)
+    }
+}
+
+impl<'a> From<&'a [char]> for Text<'a> {
+    fn from(text: &'a [char]) -> Text<'a> {
+        Text::Chars(text)
+    }
+}
+
+/// The eight ratios in the order in which they are added, their sum, how many characters were fed (the newline that is fed after every
+/// text among them), and whether the scan stopped early because the sum had reached the threshold.
+#[derive(Clone, Copy, Debug, PartialEq)]
+pub struct Score {
+    pub symbols: f32,
+    pub accents: f32,
+    pub unprintable: f32,
+    pub ranges: f32,
+    pub doubled: f32,
+    pub words: f32,
+    pub stops: f32,
+    pub archaic: f32,
+    pub sum: f32,
+    pub fed: u32,
+    pub stopped: bool,
+}
+
+fn unless_refused<T>(number: u32, place: u32, told: T) -> Result<T, Refusal> {
+    if number == 0 { Ok(told) } else { Err(Refusal { number, place }) }
+}
+
+fn accepted(told: host::HostRead) -> Result<usize, Refusal> {
+    unless_refused(told.number, told.place, told.count as usize)
+}
+
+/// The mess ratio of a text. Without a threshold 0.2 is used.
+///
+/// ```
+/// use drasumira::{Tables, score};
+/// let tables = Tables::builtin_only();
+/// let told = score("\u{1}", None, &tables)?;
+/// assert_eq!((told.sum, told.fed, told.stopped), (4.0, 2, false));
+/// assert_eq!(score("\u{416}", None, &tables).unwrap_err().to_string(),
+///     "refusal 6: the code point at index 0 of the text is in no record of the class table");
+/// assert_eq!(score(&['a'][..], Some(f32::NAN), &tables).unwrap_err().number, 4);
+/// # Ok::<(), drasumira::Refusal>(())
+/// ```
+pub fn score<'a>(text: impl Into<Text<'a>>, threshold: Option<f32>, tables: &Tables) -> Result<Score, Refusal> {
+    let told = match text.into() {
+        Text::Bytes(bytes) => host::score_utf8(bytes, threshold, &tables.classes, &tables.pairs),
+        Text::Chars(chars) => host::score(chars, threshold, &tables.classes, &tables.pairs),
+    };
+    let score = Score {
+        symbols: told.symbols,
+        accents: told.accents,
+        unprintable: told.unprintable,
+        ranges: told.ranges,
+        doubled: told.doubled,
+        words: told.words,
+        stops: told.stops,
+        archaic: told.archaic,
+        sum: told.sum,
+        fed: told.fed,
+        stopped: told.stopped != 0,
+    };
+    unless_refused(told.number, told.place, score)
+}
+
+/// The score of each line. A line ends at U+000A, which is no part of it; a last line without one counts. Each line is a call of its own.
+///
+/// ```
+/// use drasumira::{Tables, score_lines};
+/// let scores = score_lines("plain\n\u{1}\u{1}\n", None, &Tables::builtin_only());
+/// assert_eq!(scores.len(), 2);
+/// assert!(scores[0].as_ref().unwrap().sum < scores[1].as_ref().unwrap().sum);
+/// ```
+pub fn score_lines(text: &str, threshold: Option<f32>, tables: &Tables) -> Vec<Result<Score, Refusal>> {
+    let lines = text.strip_suffix('\n').unwrap_or(text);
+    if text.is_empty() {
+        return vec![];
+    }
+    lines.split('\n').map(|line| score(line, threshold, tables)).collect()
+}
+
+/// Reads UTF-8 into the first places of `out`, one code point each, and answers how many; the rest of `out` stays, and all of it in a refusal.
+///
+/// ```
+/// let mut out = [0; 4];
+/// assert_eq!(drasumira::read("aé".as_bytes(), &mut out), Ok(2));
+/// assert_eq!(out, [0x61, 0xE9, 0, 0]);
+/// assert_eq!(drasumira::read(b"a\xFF", &mut out), Err(drasumira::Refusal { number: 2, place: 1 }));
+/// ```
+pub fn read(bytes: &[u8], out: &mut [u32]) -> Result<usize, Refusal> {
+    accepted(host::read(bytes, out))
+}
+
+/// One of two texts.
+#[derive(Clone, Copy, Debug, PartialEq, Eq, Hash)]
+pub enum Which {
+    First,
+    Second,
+}
+
+/// The refusal of one of two texts; the first is checked first.
+#[derive(Clone, Copy, Debug, PartialEq, Eq, Hash)]
+pub struct RefusedText {
+    pub which: Which,
+    pub refusal: Refusal,
+}
+
+impl std::fmt::Display for RefusedText {
+    fn fmt(&self, f: &mut std::fmt::Formatter<'_>) -> std::fmt::Result {
+        let which = if self.which == Which::First { "first" } else { "second" };
+        write!(f, "of the {which} text: {}", self.refusal)
+    }
+}
+
+impl std::error::Error for RefusedText {}
+
+/// Which of two texts is the more readable: each is scored whole, the lower score is taken, and equal scores take the first.
+///
+/// ```
+/// use drasumira::{Tables, Which, verdict};
+/// let (noise, plain): (Vec<char>, Vec<char>) = ("\u{1}\u{2}".chars().collect(), "plain".chars().collect());
+/// assert_eq!(verdict(&noise, &plain, &Tables::full()), Ok(Which::Second));
+/// assert_eq!(verdict(&plain, &plain, &Tables::full()), Ok(Which::First));
+/// ```
+pub fn verdict(first: &[char], second: &[char], tables: &Tables) -> Result<Which, RefusedText> {
+    let told = host::verdict(first, second, &tables.classes, &tables.pairs);
+    let refusal = Refusal { number: told.number, place: told.place };
+    match (told.taken, told.refused) {
+        (1, _) => Ok(Which::First),
+        (2, _) => Ok(Which::Second),
+        (_, 1) => Err(RefusedText { which: Which::First, refusal }),
+        _ => Err(RefusedText { which: Which::Second, refusal }),
+    }
+}
+
+/// The more readable of two texts, without the newlines at its end; an empty part of the first where either is refused.
+/// The newlines are cut here and not by the proved library, since a reference does not cross from it.
+///
+/// ```
+/// use drasumira::{Tables, choose};
+/// let (noise, plain): (Vec<char>, Vec<char>) = ("\u{1}\u{2}".chars().collect(), "plain\n\n".chars().collect());
+/// assert_eq!(choose(&noise, &plain, &Tables::full()).iter().collect::<String>(), "plain");
+/// ```
+pub fn choose<'a>(first: &'a [char], second: &'a [char], tables: &Tables) -> &'a [char] {
+    let taken = match verdict(first, second, tables) {
+        Ok(Which::First) => first,
+        Ok(Which::Second) => second,
+        Err(_) => &first[..0],
+    };
+    let kept = taken.iter().rposition(|c| *c != '\n').map_or(0, |last| last + 1);
+    &taken[..kept]
+}

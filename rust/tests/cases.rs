@@ -1,0 +1,92 @@
+// What 01 marks of the whole scan, the refusals in their order, and that nothing lent is changed.
+use drasumira::{Refusal, RefusedText, Tables, Which, choose, read, score, score_lines, verdict};
+
+fn chars(text: &str) -> Vec<char> {
+    text.chars().collect()
+}
+
+fn refusal(number: u32, place: u32) -> Refusal {
+    Refusal { number, place }
+}
+
+#[test]
+fn the_cases_of_01() {
+    let tables = Tables::full();
+    let empty = score("", None, &tables).unwrap();
+    assert_eq!((empty.sum.to_bits(), empty.fed, empty.stopped), (0, 1, false));
+    let j = score("a".repeat(31).as_str(), Some(0.0), &tables).unwrap();
+    assert_eq!((j.fed, j.stopped), (32, true));
+    let k = score("a".repeat(511).as_str(), Some(0.0), &tables).unwrap();
+    assert_eq!((k.fed, k.stopped), (64, true));
+    let program = score("\u{1}", Some(0.2), &Tables::builtin_only()).unwrap();
+    assert_eq!((program.sum.to_bits(), program.fed, program.stopped), (0x4080_0000, 2, false));
+}
+
+#[test]
+fn str_and_chars_agree() {
+    let tables = Tables::full();
+    for text in ["", "Voix ambiguë d'un cœur", "Съешь же ещё этих мягких", "\u{1}\u{FFFD}日本語"] {
+        assert_eq!(score(text, Some(9.0), &tables), score(&chars(text)[..], Some(9.0), &tables));
+    }
+}
+
+#[test]
+fn refusals_in_their_order() {
+    let (full, few) = (Tables::full(), Tables::builtin_only());
+    let long = "a".repeat(65_537);
+    assert_eq!(score(long.as_str(), Some(f32::NAN), &full), Err(refusal(1, 0)));
+    assert_eq!(score("Ж", Some(f32::INFINITY), &few), Err(refusal(4, 0)));
+    assert_eq!(score("abЖ", None, &few), Err(refusal(6, 2)));
+    assert_eq!(score(&b"ab\xFF"[..], Some(f32::NAN), &few), Err(refusal(2, 2)));
+    assert!(score(&long[1..], None, &full).is_ok());
+    let mut classes = vec![0; 24];
+    classes[0..8].copy_from_slice(&[0x50, 2, 0, 0, 0x50, 2, 0, 0]);
+    assert!(Tables::new(classes.clone(), vec![0; 32_768]).is_ok());
+    classes.extend(classes.clone());
+    assert_eq!(Tables::new(classes, vec![0; 32_768]).err(), Some(refusal(5, 1)));
+}
+
+#[test]
+fn a_refused_reading_changes_nothing() {
+    let mut out = [7; 3];
+    assert_eq!(read(b"abcd", &mut out), Err(refusal(3, 0)));
+    assert_eq!(read(b"ab\xE2\x82", &mut out), Err(refusal(2, 2)));
+    assert_eq!(out, [7; 3]);
+    assert_eq!(read("€".as_bytes(), &mut out), Ok(1));
+    assert_eq!(out, [0x20AC, 7, 7]);
+}
+
+#[test]
+fn lines() {
+    let tables = Tables::builtin_only();
+    assert!(score_lines("", None, &tables).is_empty());
+    assert_eq!(score_lines("\n", None, &tables), [score("", None, &tables)]);
+    assert_eq!(score_lines("a\n\u{1}", None, &tables), [score("a", None, &tables), score("\u{1}", None, &tables)]);
+    assert_eq!(score_lines("a\nЖ\n", None, &tables)[1], Err(refusal(6, 0)));
+}
+
+#[test]
+fn the_chooser() {
+    let tables = Tables::builtin_only();
+    let (plain, noise, foreign) = (chars("plain\n\n"), chars("\u{1}\u{2}\n"), chars("Ж"));
+    assert_eq!(choose(&noise, &plain, &tables), &plain[..5]);
+    assert_eq!(choose(&chars("\n\n"), &noise, &tables), &[]);
+    assert_eq!(verdict(&plain, &plain, &tables), Ok(Which::First));
+    let second = RefusedText { which: Which::Second, refusal: refusal(6, 0) };
+    assert_eq!(verdict(&plain, &foreign, &tables), Err(second));
+    assert_eq!(
+        second.to_string(),
+        "of the second text: refusal 6: the code point at index 0 of the text is in no record of the class table"
+    );
+    assert!(choose(&plain, &foreign, &tables).is_empty());
+}
+
+#[test]
+fn the_cut_is_what_01_says() {
+    let tables = Tables::builtin_only();
+    for text in ["", "\n", "a", "a\n", "\na\n\n", "a\nb", "a \n", "\r\n"] {
+        let text = chars(text);
+        let expected = text.iter().collect::<String>();
+        assert_eq!(choose(&text, &text, &tables).iter().collect::<String>(), expected.trim_end_matches('\n'));
+    }
+}
