@@ -1,0 +1,16 @@
+-- A number is in the table exactly where its first record is a record.
+-- Assumes nothing.
+use Rattle.languages.specs.Included.{inTable}
+use borrow.Author.Needs.{needs}
+use Rattle.languages.proofs.included.in_table.Statement.{statement}
+use Rattle.languages.proofs.included.in_table.Tie as tie
+
+first-record-requires : tie.Need-first-record-requires
+first-record-requires c κs = search needs
+
+returns : tie.Need-returns
+unfolding inTable
+returns c = cc
+
+pub in-table-spec : {M : Type 1} → statement M
+in-table-spec = tie.close (tie.spec first-record-requires returns)
