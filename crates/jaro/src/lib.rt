@@ -46,7 +46,7 @@ fn window(a: usize, b: usize) -> usize
 }
 
 // Whether x is among the letters. It looks at all of them, so that the compiler can compare several at once.
-fn holds(letters: &[u32], x: u32) -> bool
+pub fn holds(letters: &[u32], x: u32) -> bool
     ensures { λ r. ⌜ r ≡ among x (now (letters .entry)) ⌝ }
 {
     let mut held = false;

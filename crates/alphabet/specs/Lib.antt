@@ -1,0 +1,4 @@
+pub mod Alphabet
+pub mod AlphabetLaws
+pub mod Candidates
+pub mod CandidatesLaws
