@@ -10,7 +10,7 @@ use borrow.Author.Tests.{le-ltb, lt-ltb, not-false}
 use Rattle.bits.specs.Limits.{MOST-INCLUDED}
 use Rattle.bits.specs.Refusals.{BAD-INCLUDED}
 use Rattle.bits.specs.First.{first-within, first-before}
-use Rattle.bits.specs.Tests.{by-bool, split}
+use Rattle.bits.specs.Tests.{split}
 use Rattle.languages.specs.Check.{refusedAt, answered}
 use Rattle.languages.specs.CheckLaws.{never, answer-none}
 use Rattle.languages.specs.Included.{loneZero, inTable, firstMissing, checkedIncluded}

@@ -1,7 +1,8 @@
 -- The letters of a language record as a list (01, "Tables": "letters by popularity"): its used slots, in their order.
 -- Assumes nothing.
 use Prim.Native.Nat.{ℕ, zero, suc, _+_}
-use mathlib.Core.List.{List, [], _∷_}
+use mathlib.Core.List.{List, [], _∷_, _++_}
+use lib.ListN.{drop}
 use Rattle.languages.specs.Languages.{letterCount, slotAt}
 
 -- f at n indices, from i on
@@ -11,3 +12,7 @@ listed f i (suc n) = f i ∷ listed f (i + 1) n
 
 unfoldable pub lettersOf : List ℕ → ℕ → List ℕ
 lettersOf t i = listed (slotAt t i) 0 (letterCount t i)
+
+-- the letters put over the front of a list, the rest of which stays
+unfoldable pub lettersOver : List ℕ → ℕ → List ℕ → List ℕ
+lettersOver t i w = lettersOf t i ++ drop (letterCount t i) w

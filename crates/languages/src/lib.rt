@@ -20,6 +20,7 @@ use bits::refusals::BAD_LANGUAGES;
 use records::u32_at;
 
 pub mod included;
+pub mod letters;
 
 // the mark of a language with accents
 const ACCENTS: u32 = 1;

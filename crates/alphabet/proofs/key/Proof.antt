@@ -1,6 +1,5 @@
 -- A share is at most 65536 parts, so that nothing is taken below 0.
 -- Assumes nothing.
-use native.Mathlib.Omega.{arith}
 use Rattle.alphabet.specs.Candidates.{keyOf}
 use Rattle.alphabet.specs.CandidatesLaws.{parts-most}
 use borrow.Author.Needs.{needs}
