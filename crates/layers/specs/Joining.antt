@@ -81,7 +81,8 @@ module _ (test : ℕ → Bool) (xs : List ℕ) where
   into-lengths (y ∷ ys) e = go (test (y .key)) e (into-lengths ys)
     where
       go : (t : Bool) → t || some test ys ≡ true → (some test ys ≡ true → lengths (intoOldest test xs ys) ≡ lengths ys + length xs)
-          → lengths (cond t (record { key = y .key; letters = y .letters ++ xs } ∷ ys) (y ∷ intoOldest test xs ys)) ≡ length (y .letters) + lengths ys + length xs
+          → lengths (cond t (record { key = y .key; letters = y .letters ++ xs } ∷ ys) (y ∷ intoOldest test xs ys))
+          ≡ length (y .letters) + lengths ys + length xs
       go true e i = omega (arith, length-append (y .letters) xs)
       go false e i = omega (arith, i e)
 
@@ -90,7 +91,8 @@ made-keys : (ys : List Layer) (y : Layer) → keysIn (ys ++ (y ∷ [])) ≡ keys
 made-keys [] y = refl
 made-keys (z ∷ ys) y = ap (λ (l : List ℕ). z .key ∷ l) (made-keys ys y)
 
-made-letters : (k : ℕ) (ys : List Layer) (y : Layer) → lettersAt k (ys ++ (y ∷ [])) ≡ cond (eqb (length (keysIn ys)) k) (lettersAt k ys ++ y .letters) (lettersAt k ys)
+made-letters : (k : ℕ) (ys : List Layer) (y : Layer)
+    → lettersAt k (ys ++ (y ∷ [])) ≡ cond (eqb (length (keysIn ys)) k) (lettersAt k ys ++ y .letters) (lettersAt k ys)
 made-letters zero [] y = refl
 made-letters (suc k) [] y = rw (eqb·zero-suc k)
 made-letters zero (z ∷ ys) y = rw (eqb·suc-zero (length (keysIn ys)))

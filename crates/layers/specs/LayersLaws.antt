@@ -1,6 +1,6 @@
 -- The layers of 01 and the layers by number are the same: `layer-letters`: each layer is the letters of its own characters, in text order
--- (`layer-alone`: where each lowers to one); `layer-keys`, `layer-count`: as many layers, with the same keys. And `layers-total`: the layers' lengths add up to the number of taken letters.
--- Here "-joined", "-made": one more character.
+-- (`layer-alone`: where each lowers to one); `layer-keys`, `layer-count`: as many layers, with the same keys. And `layers-total`: the layers'
+-- lengths add up to the number of taken letters.
 -- Assumes nothing.
 use Prim.Native.Nat.{ℕ, suc, _+_}
 use mathlib.Core.Path.{_≡_, refl, sym, ap, _∙_}

@@ -5,5 +5,6 @@ pub mod Joining
 pub mod LayersLaws
 pub mod Over
 pub mod Few
+pub mod Split
 pub mod Looking
 pub mod Splitting

@@ -59,14 +59,16 @@ own-so a b h = eq-eqb a b h
 
 module _ (pairs keys : List ℕ) (b : ℕ) where
   -- a key accepts the range, and none before it does
-  pub layer-joins : {j : ℕ} → Looking (accepts pairs b) keys j → j < length keys → accepts pairs b (getD keys j 0) ≡ true → j ≡ layerFor pairs keys b
+  pub layer-joins : {j : ℕ} → Looking (accepts pairs b) keys j → j < length keys → accepts pairs b (getD keys j 0) ≡ true
+      → j ≡ layerFor pairs keys b
   unfolding layerFor
   layer-joins {j} g l t =
       let e : oldest (accepts pairs b) keys ≡ j = look-hit (accepts pairs b) keys g l t in
       simp (e, lt-ltb j (length keys) l)
 
   -- no key accepts it
-  pub layer-own : {j : ℕ} (r : ℕ) → Looking (accepts pairs b) keys j → length keys ≤ j → r ≡ oldest (isOwn b) keys → r ≡ layerFor pairs keys b
+  pub layer-own : {j : ℕ} (r : ℕ) → Looking (accepts pairs b) keys j → length keys ≤ j → r ≡ oldest (isOwn b) keys
+      → r ≡ layerFor pairs keys b
   unfolding layerFor
   layer-own {j} r g h e =
       let l : length keys ≤ oldest (accepts pairs b) keys = omega (arith, look-end (accepts pairs b) keys g h) in

@@ -140,7 +140,8 @@ module _ (pairs : List ℕ) where
   pub keys-start : Marks RANGES (0 ∷ [])
   keys-start = marks-more (marks-start RANGES) 0 (lit< tt) (λ j h e. not-suc-le-zero h)
 
-  pub keys-marks : (keys : List ℕ) (b : ℕ) → Marks RANGES (0 ∷ keys) → (b ≡ 0 → ⊥) → b ≤ LAST-RANGE → Marks RANGES (0 ∷ keysWith pairs keys b)
+  pub keys-marks : (keys : List ℕ) (b : ℕ) → Marks RANGES (0 ∷ keys) → (b ≡ 0 → ⊥) → b ≤ LAST-RANGE
+      → Marks RANGES (0 ∷ keysWith pairs keys b)
   keys-marks keys b m k h =
       split (layerFor pairs keys b) (length keys) (λ l. rw (keys-old keys b l) m)
       (λ l. rw (keys-new keys b l) (marks-more m b (omega arith) (key-fresh keys b k l)))

@@ -47,7 +47,9 @@ module _ (w : List ℕ) (i : ℕ) (s : List ℕ) (h : i + length s ≤ length w)
   pub over-beyond : (k : ℕ) → i + length s ≤ k → drop k (over w i s) ≡ drop k w
   over-beyond k l =
       let e : i + length s + (k - (i + length s)) ≡ k = omega arith in
-      rw (← e) (sym (drop-drop (k - (i + length s)) (i + length s) (over w i s)) ∙ ap (drop (k - (i + length s))) over-back ∙ drop-drop (k - (i + length s)) (i + length s) w)
+      rw (← e)
+      (sym (drop-drop (k - (i + length s)) (i + length s) (over w i s)) ∙ ap (drop (k - (i + length s))) over-back
+      ∙ drop-drop (k - (i + length s)) (i + length s) w)
 
   pub over-before : (k : ℕ) → k < i → getD (over w i s) k 0 ≡ getD w k 0
   over-before k l = sym (getD-take i (over w i s) k 0 l) ∙ ap (λ (v : List ℕ). getD v k 0) (over-front i (omega arith)) ∙ getD-take i w k 0 l
@@ -77,7 +79,8 @@ over-more w a s i h l =
     ∙ rw (add-one i) (sym (over-paste w a s (suc i) l))
 
 -- what stands at k
-over-here : (w : List ℕ) (i : ℕ) (s : List ℕ) (k : ℕ) → i + length s ≤ length w → i ≤ k → k < i + length s → getD (over w i s) k 0 ≡ getD s (k - i) 0
+over-here : (w : List ℕ) (i : ℕ) (s : List ℕ) (k : ℕ) → i + length s ≤ length w → i ≤ k → k < i + length s
+    → getD (over w i s) k 0 ≡ getD s (k - i) 0
 over-here w i s k h a b =
     let e : i + (k - i) ≡ k = omega arith in
     rw e at (over-in w i s h (k - i) (omega arith))
@@ -91,7 +94,8 @@ over-past w i s k h a =
 pub over-over : (w : List ℕ) (i : ℕ) (s t : List ℕ) → i + length s ≤ length w → i + length t ≤ length w
     → over (over w i s) i t ≡ over w i (t ++ drop (length t) s)
 over-over w i s t h l =
-    ext-getD 0 (over (over w i s) i t) (over w i (t ++ drop (length t) s)) (rw (over-length (over w i s) i t l', over-length w i s h, over-length w i (t ++ drop (length t) s) m)) at-each
+    ext-getD 0 (over (over w i s) i t) (over w i (t ++ drop (length t) s))
+    (rw (over-length (over w i s) i t l', over-length w i s h, over-length w i (t ++ drop (length t) s) m)) at-each
   where
     l' : i + length t ≤ length (over w i s)
     l' = rw (over-length w i s h) l
@@ -107,7 +111,8 @@ over-over w i s t h l =
         split k i
         (λ a. over-before (over w i s) i t l' k a ∙ over-before w i s h k a ∙ sym (over-before w i (t ++ drop (length t) s) m k a))
         (λ a. split k (i + length t)
-        (λ b. over-here (over w i s) i t k l' a b ∙ sym (over-here w i (t ++ drop (length t) s) k m a (omega (arith, n)) ∙ List·getD-append t (drop (length t) s) 0 (k - i) (omega arith)))
+        (λ b. over-here (over w i s) i t k l' a b
+        ∙ sym (over-here w i (t ++ drop (length t) s) k m a (omega (arith, n)) ∙ List·getD-append t (drop (length t) s) 0 (k - i) (omega arith)))
         (λ b. over-past (over w i s) i t k l' b ∙ split k (i + length s)
         (λ c. over-here w i s k h a c ∙ sym (over-here w i (t ++ drop (length t) s) k m a (omega (arith, n)) ∙ beyond k a b))
         (λ c. over-past w i s k h c ∙ sym (over-past w i (t ++ drop (length t) s) k m (omega (arith, n))))))
@@ -118,8 +123,11 @@ over-over w i s t h l =
             (rw e at (getD-append-add t (drop (length t) s) (k - i - length t) 0 ∙ getD-drop (length t) s (k - i - length t) 0))
 
 -- two lists written over apart from each other
-pub over-swap : (w : List ℕ) (i : ℕ) (s : List ℕ) (j : ℕ) (t : List ℕ) → i + length s ≤ j → j + length t ≤ length w → over (over w i s) j t ≡ over (over w j t) i s
-over-swap w i s j t h l = ext-getD 0 (over (over w i s) j t) (over (over w j t) i s) (rw (over-length (over w i s) j t l', over-length w i s g, over-length (over w j t) i s g', over-length w j t l)) at-each
+pub over-swap : (w : List ℕ) (i : ℕ) (s : List ℕ) (j : ℕ) (t : List ℕ) → i + length s ≤ j → j + length t ≤ length w
+    → over (over w i s) j t ≡ over (over w j t) i s
+over-swap w i s j t h l =
+    ext-getD 0 (over (over w i s) j t) (over (over w j t) i s)
+    (rw (over-length (over w i s) j t l', over-length w i s g, over-length (over w j t) i s g', over-length w j t l)) at-each
   where
     g : i + length s ≤ length w
     g = omega arith
@@ -159,7 +167,8 @@ set-past [] q n a = rw zero-add
 set-past (x ∷ p) q n a = rw suc-add (ap (λ (l : List ℕ). x ∷ l) (set-past p q n a))
 
 -- one element stored
-pub over-set : (w : List ℕ) (i : ℕ) (s : List ℕ) (j a : ℕ) → i + length s ≤ length w → j < length s → set (over w i s) (i + j) a ≡ over w i (set s j a)
+pub over-set : (w : List ℕ) (i : ℕ) (s : List ℕ) (j a : ℕ) → i + length s ≤ length w → j < length s
+    → set (over w i s) (i + j) a ≡ over w i (set s j a)
 unfolding over
 over-set w i s j a h l =
     rw (length-set s j a, ← set-append-left s (drop (i + length s) w) j a l)

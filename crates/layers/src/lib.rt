@@ -6,7 +6,7 @@ ghost use Rattle.bits.specs.Limits.{LAST-RANGE, PAIR-BYTES};
 ghost use Rattle.layers.specs.Layers.{isOwn};
 ghost use Rattle.layers.specs.Numbers.{oldest, layerFor};
 ghost use Rattle.layers.specs.NumbersLaws.{Below};
-ghost use Rattle.layers.specs.Splitting.{Split};
+ghost use Rattle.layers.specs.Split.{Split};
 use bits::limits::LAST_RANGE;
 use classes::is_suspicious;
 

@@ -6,7 +6,8 @@ pub mod Rising
 pub mod Lacks
 pub mod LayerLetters
 pub mod Area
+pub mod Ranked
 pub mod Meeting
 pub mod Gathering
 pub mod Settling
-pub mod RankLaws
+pub mod RankedLaws

@@ -9,7 +9,7 @@ use lib.Seq.{getD-set-same, getD-set-other, getD-take, length-take-le}
 use Rattle.bits.specs.Limits.{LAST-RANGE}
 use Rattle.bits.specs.Tests.{split}
 use Rattle.layers.specs.NumbersLaws.{Below, layers-few}
-use Rattle.layers.specs.Splitting.{Split}
+use Rattle.layers.specs.Split.{Split}
 use Rattle.letters.specs.Letters.{count}
 use Rattle.letters.specs.LettersLaws.{count-few}
 

@@ -1,7 +1,7 @@
 -- A layer has at most n letters, and at most n different ones. Assumes nothing.
 use native.Mathlib.Omega.{arith}
 use Rattle.replay_layers.specs.Filling.{sized, counted}
-use Rattle.letters.specs.RankLaws.{ranked-few}
+use Rattle.letters.specs.RankedLaws.{ranked-few}
 use borrow.Author.Needs.{needs}
 use Rattle.replay_layers.proofs.past_layer.Statement.{statement}
 use Rattle.replay_layers.proofs.past_layer.Tie as tie

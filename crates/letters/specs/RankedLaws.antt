@@ -1,7 +1,7 @@
 -- For callers of `rank`: what stands in the work area afterwards.
 -- Assumes nothing.
 use Prim.Native.Nat.{ℕ, _+_, _*_, _≤_}
-use mathlib.Core.Path.{_≡_, sym, ap, _∙_}
+use mathlib.Core.Path.{_≡_, ap, _∙_}
 use mathlib.Core.List.{List}
 use native.Mathlib.Omega.{arith}
 use lib.ListN.{length, take, drop}
@@ -10,7 +10,7 @@ use Rattle.letters.specs.LettersLaws.{ranking-few}
 use Rattle.letters.specs.Lacks.{lacks, lacks-length}
 use Rattle.letters.specs.LayerLetters.{layerLetters, letters-to-few}
 use Rattle.letters.specs.Area.{area, area-length, area-front, area-high, area-back}
-use Rattle.letters.specs.Settling.{Ranked}
+use Rattle.letters.specs.Ranked.{Ranked}
 
 module _ (n k : ℕ) (w : List ℕ) {v : List ℕ} {d : ℕ} (r : Ranked n k w v d) (z : 4 * n ≤ length w) where
   abbrev order : List ℕ
