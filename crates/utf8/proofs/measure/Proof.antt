@@ -6,7 +6,7 @@ use lib.ListN.{length}
 use borrow.Author.Tests.{not-true, not-false}
 use borrow.Author.Needs.{needs}
 use Rattle.utf8.proofs.Places.{yes, no, at-two, at-three, at-four}
-use Rattle.utf8.proofs.Loops.{Passed, passed-start, passed-on, passed-ascii, passed-fault, passed-end}
+use Rattle.utf8.proofs.Counting.{Passed, passed-start, passed-on, passed-ascii, passed-fault, passed-end}
 use Rattle.utf8.proofs.measure.Statement.{statement}
 use Rattle.utf8.proofs.measure.Tie as tie
 
