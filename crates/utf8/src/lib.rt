@@ -19,7 +19,7 @@ use utf8_table::two_at;
 use utf8_table::wide;
 ghost use mathlib.Core.Bool.{true};
 ghost use mathlib.Core.Path.{_≡_};
-ghost use Prim.Native.Nat.{_+_, _≤_, _<_};
+ghost use Prim.Native.Nat.{_≤_};
 ghost use lib.ListN.{length};
 ghost use Rattle.utf8.specs.Text.{textOf, wellFormed};
 ghost use Rattle.utf8.specs.Answer.{measured, counted, refused, answer, filled, outAfter};
