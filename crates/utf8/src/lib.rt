@@ -123,7 +123,8 @@ pub fn count_utf8(bytes: &[u8]) -> Read
             if LONGEST_TEXT < count {
                 return refusal(TOO_LONG, 0);
             }
-            Read::Count(count as u32)
+            let points = count as u32;
+            Read::Count(points)
         }
     }
 }
