@@ -1,6 +1,6 @@
--- What the answers of a reading say of encodings, for readers and for a writer of UTF-8: the bytes accepted are the concatenation of the
--- encodings of the text (`accepted-encodes`); every such concatenation within the limits is accepted, and gives its text
--- (`encoded-accepted`, so nothing else is); the place in a refusal 2 is the length of the longest front that is such a concatenation
+-- What the answers of a reading say of encodings, for readers and for a writer of UTF-8. The bytes accepted are the concatenation of the
+-- encodings of the text, so that nothing else is accepted (`accepted-encodes`); every such concatenation within the limits is accepted,
+-- and gives its text (`encoded-accepted`); the place in a refusal 2 is the length of the longest front that is such a concatenation
 -- (`refused-place`). Assumes nothing.
 use Prim.Native.Nat.{ℕ, _+_, _*_, _≤_, _<_}
 use mathlib.Core.Path.{_≡_, refl, sym, ap, _∙_}
