@@ -1,2 +1,5 @@
 pub mod Places
-pub mod Loops
+pub mod Going
+pub mod Counting
+pub mod Widening
+pub mod Filling

@@ -40,13 +40,13 @@ counted bytes =
     (Count (length (textOf bytes)))))
 
 -- the last cause, 3, where what was counted is to go into an output with this room
-abbrev pub within-room : ℕ → Read → Read
-within-room room (Count n) = cond (ltb room n) (refused NO-ROOM 0) (Count n)
-within-room room (Refused r) = Refused r
+abbrev pub withRoom : ℕ → Read → Read
+withRoom room (Count n) = cond (ltb room n) (refused NO-ROOM 0) (Count n)
+withRoom room (Refused r) = Refused r
 
 -- the answer of a call whose output has this room
 unfoldable pub answer : List ℕ → ℕ → Read
-answer bytes room = within-room room (counted bytes)
+answer bytes room = withRoom room (counted bytes)
 
 -- an output with the text in its first places
 abbrev pub filled : List ℕ → List ℕ → List ℕ

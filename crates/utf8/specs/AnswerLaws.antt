@@ -1,7 +1,7 @@
 -- Laws of Answer: one for each way in which `count_utf8` and `read_utf8` return, and what a caller knows of bytes that were counted
 -- (`readable`). Assumes nothing.
 use Prim.Native.Nat.{ℕ, _≤_, _<_}
-use mathlib.Core.Path.{_≡_, refl, sym, ap, _∙_}
+use mathlib.Core.Path.{_≡_, refl, ap}
 use mathlib.Core.List.{List}
 use mathlib.Core.Bool.{Bool, true, false, cond, not}
 use native.Mathlib.Omega.{arith}
@@ -11,14 +11,12 @@ use borrow.Author.Tests.{lt-ltb, le-ltb, ltb-false, not-false}
 use Rattle.bits.specs.declared.Refusal.{Refusal}
 use Rattle.bits.specs.Limits.{LONGEST-BYTES, LONGEST-TEXT}
 use Rattle.bits.specs.Refusals.{TOO-LONG, ILL-FORMED, NO-ROOM}
-use Rattle.bits.specs.Tests.{split, by-bool}
 use Rattle.utf8.specs.declared.Read.{Read}
 use Rattle.utf8.specs.declared.Read.the-variants.{Count, Refused}
-use Rattle.utf8.specs.declared.Measured.{Measured}
 use Rattle.utf8.specs.declared.Measured.the-variants.{Points, Fault}
 use Rattle.utf8.specs.Text.{textOf, faultAt, wellFormed}
 use Rattle.utf8.specs.TextLaws.{fault-within}
-use Rattle.utf8.specs.Answer.{refused, measured, counted, within-room, answer, filled, written, outAfter}
+use Rattle.utf8.specs.Answer.{refused, measured, counted, answer, filled, outAfter}
 
 -- which of the two was picked
 fault-picked : (t : Bool) (n f p : ℕ) → Fault p ≡ cond t (Points n) (Fault f) → (t ≡ false) × (p ≡ f)

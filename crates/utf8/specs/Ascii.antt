@@ -1,20 +1,20 @@
 -- Runs of ASCII bytes, which both passes of the reader take at once: what the helpers of src/ ensure, and that the text of such a run is
 -- its bytes. No part of what the reader answers. Assumes nothing.
 use Prim.Native.Nat.{ℕ, zero, suc, _+_, _-_, _≤_, _<_}
-use mathlib.Core.Path.{_≡_, refl, sym, ap, _∙_}
-use mathlib.Core.List.{List, [], _∷_, _++_, append-assoc}
+use mathlib.Core.Path.{_≡_, ap, _∙_}
+use mathlib.Core.List.{List, [], _∷_}
 use mathlib.Core.Bool.{Bool, true, _&&_}
 use native.Mathlib.Nat.{add-zero}
 use native.Mathlib.Numerals.{add-one}
 use native.Mathlib.Omega.{arith}
-use lib.ListN.{length, take, drop, getD}
+use lib.ListN.{length, take, drop}
 use lib.Seq.{drop-cons}
 use lib.Dec.{ltb}
 use borrow.Author.Tests.{ltb-true}
 use Rattle.bits.specs.Tests.{split, and-l, and-r}
 use Rattle.utf8_table.specs.WellFormed.{one, byteAt, stepAt}
 use Rattle.utf8_table.specs.ByLead.{row-one}
-use Rattle.utf8.specs.Text.{Reading, after}
+use Rattle.utf8.specs.Text.{after}
 use Rattle.utf8.specs.TextLaws.{from, at-row, from-step}
 
 -- the bytes from i up to r are ASCII

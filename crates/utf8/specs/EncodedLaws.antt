@@ -5,8 +5,8 @@
 use Prim.Native.Nat.{ℕ, zero, suc, _+_, _-_, _≤_, _<_}
 use mathlib.Core.Path.{_≡_, refl, sym, ap, _∙_}
 use mathlib.Core.List.{List, [], _∷_, _++_, append-assoc, append-nil}
-use mathlib.Core.Bool.{Bool, true, false, cond, _&&_}
-use native.Mathlib.Nat.{add-assoc, add-zero, zero-add}
+use mathlib.Core.Bool.{true}
+use native.Mathlib.Nat.{add-zero, zero-add}
 use native.Mathlib.Omega.{arith}
 use lib.ListN.{length, getD, take, drop, length-append, length-drop}
 use lib.Seq.{take-add, take-length, drop-cons, drop-drop, drop-append-seam, getD-drop}
@@ -15,9 +15,8 @@ use borrow.Author.Tests.{eqb-false}
 use Rattle.bits.specs.Tests.{scalar, by-test, and-l, and-r}
 use Rattle.utf8_table.specs.Encoding.{encode, encodeAll, scalars}
 use Rattle.utf8_table.specs.EncodingLaws.{encode-size}
-use Rattle.utf8_table.specs.WellFormed.{Step, row, stepAt}
-use Rattle.utf8_table.specs.SoundLaws.{Sound}
-use Rattle.utf8_table.specs.CompleteLaws.{got, rowOf, row-complete}
+use Rattle.utf8_table.specs.WellFormed.{stepAt}
+use Rattle.utf8_table.specs.CompleteLaws.{got, row-complete}
 use Rattle.utf8.specs.Text.{Reading, after, steps, reading, textOf, faultAt, wellFormed}
 use Rattle.utf8.specs.TextLaws.{from, past, at-row, step-sound, step-fits, from-start, from-end, from-step, from-after, whole-is, is-whole}
 

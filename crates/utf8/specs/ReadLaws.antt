@@ -1,6 +1,6 @@
--- What the answers of a reading say of encodings, for readers and for a writer of UTF-8: the bytes accepted are the concatenation of the
--- encodings of the text (`accepted-encodes`); every such concatenation within the limits is accepted, and gives its text
--- (`encoded-accepted`, so nothing else is); the place in a refusal 2 is the length of the longest front that is such a concatenation
+-- What the answers of a reading say of encodings, for readers and for a writer of UTF-8. The bytes accepted are the concatenation of the
+-- encodings of the text, so that nothing else is accepted (`accepted-encodes`); every such concatenation within the limits is accepted,
+-- and gives its text (`encoded-accepted`); the place in a refusal 2 is the length of the longest front that is such a concatenation
 -- (`refused-place`). Assumes nothing.
 use Prim.Native.Nat.{ℕ, _+_, _*_, _≤_, _<_}
 use mathlib.Core.Path.{_≡_, refl, sym, ap, _∙_}
@@ -12,18 +12,18 @@ use lib.Dec.{ltb}
 use borrow.Author.Tests.{le-ltb}
 use Rattle.bits.specs.Limits.{LONGEST-BYTES, LONGEST-TEXT}
 use Rattle.bits.specs.Refusals.{ACCEPTED, TOO-LONG, ILL-FORMED, NO-ROOM}
-use Rattle.utf8_table.specs.Encoding.{encode, encodeAll, scalars}
+use Rattle.utf8_table.specs.Encoding.{encodeAll, scalars}
 use Rattle.utf8_table.specs.EncodingLaws.{encode-size}
 use Rattle.utf8.specs.declared.Read.{Read}
 use Rattle.utf8.specs.declared.Read.the-variants.{Count, Refused}
 use Rattle.utf8.specs.Text.{textOf, faultAt, wellFormed}
 use Rattle.utf8.specs.TextLaws.{fault-within, broken-is}
 use Rattle.utf8.specs.EncodedLaws.{text-scalars, fault-front, fault-longest, well-formed-encoded, encoded-text, encoded-well-formed}
-use Rattle.utf8.specs.Answer.{values, refused, counted, within-room, answer, filled, outAfter}
-use Rattle.utf8.specs.AnswerLaws.{Readable, readable, Ends, reads}
+use Rattle.utf8.specs.Answer.{values, refused, counted, withRoom, answer, filled}
+use Rattle.utf8.specs.AnswerLaws.{readable, Ends, reads}
 
 -- an accepted answer was counted
-room-count : (room n : ℕ) (r : Read) → Count n ≡ within-room room r → Count n ≡ r
+room-count : (room n : ℕ) (r : Read) → Count n ≡ withRoom room r → Count n ≡ r
 room-count room n (Count m) e = count-picked (ltb room m) e
   where
     count-picked : (t : Bool) → Count n ≡ cond t (refused NO-ROOM 0) (Count m) → Count n ≡ Count m
@@ -82,7 +82,7 @@ module _ (p : ℕ) where
       let z : ILL-FORMED ≡ ACCEPTED = ap (λ (r : Read). values r .number) (passed t (refused TOO-LONG 0) (Count n) (λ w. omega arith) e) in
       omega arith
 
-  room-ill : (room : ℕ) (r : Read) → refused ILL-FORMED p ≡ within-room room r → refused ILL-FORMED p ≡ r
+  room-ill : (room : ℕ) (r : Read) → refused ILL-FORMED p ≡ withRoom room r → refused ILL-FORMED p ≡ r
   room-ill room (Count m) e = passed (ltb room m) (refused NO-ROOM 0) (Count m) (λ w. omega arith) e
   room-ill room (Refused q) e = e
 

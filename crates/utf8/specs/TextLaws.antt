@@ -3,16 +3,16 @@
 use Prim.Native.Nat.{ℕ, zero, suc, _+_, _-_, _≤_, _<_}
 use mathlib.Core.Path.{_≡_, refl, sym, ap, _∙_}
 use mathlib.Core.List.{List, [], _∷_}
-use mathlib.Core.Bool.{Bool, true, false, cond}
+use mathlib.Core.Bool.{true, false}
 use native.Mathlib.Nat.{sub-zero}
 use native.Mathlib.Omega.{arith}
 use lib.ListN.{length, getD, List·getD-eq-default}
-use lib.Dec.{eqb, ltb}
+use lib.Dec.{eqb}
 use borrow.Author.Tests.{lt-ltb, le-ltb, eqb-true, eqb-false, eq-eqb, ne-eqb}
 use Rattle.bits.specs.Tests.{by-test, cond-same, split}
-use Rattle.utf8_table.specs.WellFormed.{Step, row, byteAt, stepAt}
+use Rattle.utf8_table.specs.WellFormed.{row, byteAt, stepAt}
 use Rattle.utf8_table.specs.SoundLaws.{Sound, row-sound}
-use Rattle.utf8.specs.Text.{Reading, ended, after, steps, reading, textOf, faultAt, wellFormed}
+use Rattle.utf8.specs.Text.{Reading, ended, after, steps, reading, faultAt, wellFormed}
 
 -- what is read from the place i on
 unfoldable pub from : List ℕ → ℕ → Reading

@@ -1,5 +1,9 @@
 // UTF-8 read into code points, by the Unicode Standard. The whole input is checked before anything is written, so that a refusal leaves
 // the lent output alone; both passes go by the first byte of a sequence, and over ASCII eight bytes at a time.
+mod ascii;
+
+use ascii::past_ascii;
+use ascii::widen;
 use bits::Refusal;
 use bits::limits::LONGEST_BYTES;
 use bits::limits::LONGEST_TEXT;
@@ -15,10 +19,8 @@ use utf8_table::two_at;
 use utf8_table::wide;
 ghost use mathlib.Core.Bool.{true};
 ghost use mathlib.Core.Path.{_≡_};
-ghost use Prim.Native.Nat.{_+_, _≤_, _<_};
+ghost use Prim.Native.Nat.{_≤_};
 ghost use lib.ListN.{length};
-ghost use lib.Seq.{paste};
-ghost use Rattle.utf8.specs.Ascii.{AsciiRun, asciiOn};
 ghost use Rattle.utf8.specs.Text.{textOf, wellFormed};
 ghost use Rattle.utf8.specs.Answer.{measured, counted, refused, answer, filled, outAfter};
 
@@ -32,77 +34,6 @@ pub enum Read {
 pub enum Measured {
     Points(usize),
     Fault(usize),
-}
-
-// Whether the eight bytes from i on are ASCII. Plain tests joined by &, of which the compiler makes one load and one test.
-fn eight_ascii(b: &[u8], i: usize) -> bool
-    requires { ⌜ i + 8 ≤ length (now b) ⌝ }
-    ensures { λ r. ⌜ r ≡ asciiOn (now (b .entry)) i 7 ⌝ }
-{
-    (b[i] < 0x80)
-        & (b[i + 1] < 0x80)
-        & (b[i + 2] < 0x80)
-        & (b[i + 3] < 0x80)
-        & (b[i + 4] < 0x80)
-        & (b[i + 5] < 0x80)
-        & (b[i + 6] < 0x80)
-        & (b[i + 7] < 0x80)
-}
-
-// Past whole eights of ASCII bytes from i on.
-fn past_eights(b: &[u8], i: usize) -> usize
-    requires { ⌜ i ≤ length (now b) ⌝ }
-    ensures { λ r. ⌜ AsciiRun (now (b .entry)) i r ⌝ }
-{
-    let mut j = i;
-    while 8 <= b.len() - j {
-        if !eight_ascii(b, j) {
-            return j;
-        }
-        j += 8;
-    }
-    j
-}
-
-// Past single ASCII bytes from i on.
-fn past_ones(b: &[u8], i: usize) -> usize
-    requires { ⌜ i ≤ length (now b) ⌝ }
-    ensures { λ r. ⌜ AsciiRun (now (b .entry)) i r ⌝ }
-{
-    let mut j = i;
-    while j < b.len() {
-        if 0x80 <= b[j] {
-            return j;
-        }
-        j += 1;
-    }
-    j
-}
-
-// Past the ASCII bytes from i on. The first byte is tested by itself: in most scripts a space stands alone.
-fn past_ascii(b: &[u8], i: usize) -> usize
-    requires { ⌜ i ≤ length (now b) ⌝ }
-    ensures { λ r. ⌜ AsciiRun (now (b .entry)) i r ⌝ }
-{
-    if b.len() <= i {
-        return i;
-    }
-    if 0x80 <= b[i] {
-        return i;
-    }
-    past_ones(b, past_eights(b, i + 1))
-}
-
-// ASCII bytes as code points, into out from a place on.
-fn widen(ascii: &[u8], out: &mut [u32], at: usize)
-    requires { ⌜ at + length (now ascii) ≤ length (now out) ⌝ }
-    ensures { λ _. ⌜ now (out .exit) ≡ paste (now (out .entry)) at (now (ascii .entry)) (length (now (ascii .entry))) ⌝ }
-{
-    let mut k = 0;
-    while k < ascii.len() {
-        out[at + k] = wide(ascii[k]);
-        k += 1;
-    }
 }
 
 // How many code points well-formed bytes have, or where the first fault is.
@@ -192,7 +123,8 @@ pub fn count_utf8(bytes: &[u8]) -> Read
             if LONGEST_TEXT < count {
                 return refusal(TOO_LONG, 0);
             }
-            Read::Count(count as u32)
+            let points = count as u32;
+            Read::Count(points)
         }
     }
 }

@@ -18,66 +18,33 @@ leadsThree a b c = within (cond (eqb a 0xE0) 0xA0 0x80) (cond (eqb a 0xED) 0x9F 
 unfoldable pub leadsFour : ℕ → ℕ → ℕ → ℕ → Bool
 leadsFour a b c d = leb a 0xF4 && within (cond (eqb a 0xF0) 0x90 0x80) (cond (eqb a 0xF4) 0x8F 0xBF) b && continues c && continues d
 
--- a row whose first byte is another, or this one
-module _ (lo hi lo2 hi2 a b c d : ℕ) where
-  two-off : within lo hi a ≡ false → isTwo lo hi lo2 hi2 a b ≡ false
-  unfolding isTwo
-  two-off e = rw e
-
-  three-off : within lo hi a ≡ false → isThree lo hi lo2 hi2 a b c ≡ false
-  unfolding isThree
-  three-off e = rw (two-off e)
-
-  four-off : within lo hi a ≡ false → isFour lo hi lo2 hi2 a b c d ≡ false
-  unfolding isFour
-  four-off e = rw (three-off e)
-
-  two-on : within lo hi a ≡ true → isTwo lo hi lo2 hi2 a b ≡ within lo2 hi2 b
-  unfolding isTwo
-  two-on e = rw e
-
-  three-on : within lo hi a ≡ true → isThree lo hi lo2 hi2 a b c ≡ within lo2 hi2 b && continues c
-  unfolding isThree
-  three-on e = rw (two-on e)
-
-  four-on : within lo hi a ≡ true → isFour lo hi lo2 hi2 a b c d ≡ within lo2 hi2 b && continues c && continues d
-  unfolding isFour
-  four-on e = rw (three-on e)
-
 module _ (a b c d : ℕ) where
   no-threes : (rest : Step) → within 0xE0 0xE0 a ≡ false → within 0xE1 0xEC a ≡ false → within 0xED 0xED a ≡ false
       → within 0xEE 0xEF a ≡ false → rowsOfThree a b c rest ≡ rest
-  no-threes rest e f g h =
-      rw (
-        three-off 0xE0 0xE0 0xA0 0xBF a b c d e,
-        three-off 0xE1 0xEC 0x80 0xBF a b c d f,
-        three-off 0xED 0xED 0x80 0x9F a b c d g,
-        three-off 0xEE 0xEF 0x80 0xBF a b c d h,
-      )
+  unfolding isTwo isThree
+  no-threes rest e f g h = rw (e, f, g, h)
 
   no-fours : a < 0xF0 → rowsOfFour a b c d ≡ noRow
+  unfolding isTwo isThree isFour
   no-fours h =
       rw (
-        four-off 0xF0 0xF0 0x90 0xBF a b c d (within-below 0xF0 0xF0 a (omega arith)),
-        four-off 0xF1 0xF3 0x80 0xBF a b c d (within-below 0xF1 0xF3 a (omega arith)),
-        four-off 0xF4 0xF4 0x80 0x8F a b c d (within-below 0xF4 0xF4 a (omega arith)),
+        within-below 0xF0 0xF0 a (omega arith),
+        within-below 0xF1 0xF3 a (omega arith),
+        within-below 0xF4 0xF4 a (omega arith),
       )
 
   -- from E0 on the first two rows are past
   past-two : 0xE0 ≤ a → row a b c d ≡ rowsOfThree a b c (rowsOfFour a b c d)
-  unfolding row
+  unfolding row isTwo
   past-two h =
-      rw (
-        within-above 0x00 0x7F a (omega arith) (omega arith),
-        two-off 0xC2 0xDF 0x80 0xBF a b c d (within-above 0xC2 0xDF a (omega arith) (omega arith)),
-      )
+      rw (within-above 0x00 0x7F a (omega arith) (omega arith), within-above 0xC2 0xDF a (omega arith) (omega arith))
 
   pub row-one : a < 0x80 → row a b c d ≡ one a
   unfolding row
   row-one h = rw (within-yes 0x00 0x7F a (omega arith) (omega arith))
 
   pub row-two : 0x80 ≤ a → a < 0xE0 → row a b c d ≡ cond (leadsTwo a b) (two a b) noRow
-  unfolding row leadsTwo
+  unfolding row isTwo leadsTwo
   row-two h k =
       rw (
         within-above 0x00 0x7F a (omega arith) (omega arith),
@@ -86,8 +53,8 @@ module _ (a b c d : ℕ) where
         no-fours (omega arith),
       )
       (split a 0xC2
-      (λ m. rw (two-off 0xC2 0xDF 0x80 0xBF a b c d (within-below 0xC2 0xDF a m), lt-leb 0xC2 a m))
-      (λ m. rw (two-on 0xC2 0xDF 0x80 0xBF a b c d (within-yes 0xC2 0xDF a m (omega arith)), le-leb 0xC2 a m)))
+      (λ m. rw (within-below 0xC2 0xDF a m, lt-leb 0xC2 a m))
+      (λ m. rw (within-yes 0xC2 0xDF a m (omega arith), le-leb 0xC2 a m)))
 
   -- E0 and ED have a row of their own; the leads between have one row, and so have those after
   threes-are : 0xE0 ≤ a → a < 0xF0 → rowsOfThree a b c noRow ≡ cond (leadsThree a b c) (three a b c) noRow

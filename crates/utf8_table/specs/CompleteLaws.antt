@@ -2,14 +2,14 @@
 -- (`row-complete`). Assumes nothing.
 use Prim.Native.Nat.{ℕ, _+_, _*_, _/_, _%_, _≤_, _<_}
 use mathlib.Core.Path.{_≡_, refl, ap, _∙_}
-use mathlib.Core.List.{List, [], _∷_, _++_}
-use mathlib.Core.Bool.{Bool, true, cond, _&&_}
+use mathlib.Core.List.{List, _++_}
+use mathlib.Core.Bool.{true, cond}
 use native.Mathlib.Omega.{arith}
 use lib.ListN.{length, getD}
 use lib.Dec.{eqb}
 use borrow.Author.Tests.{le-leb, eqb-true}
 use Rattle.bits.specs.Limits.{LAST-POINT}
-use Rattle.bits.specs.Tests.{within, scalar, by-test, split, within-yes}
+use Rattle.bits.specs.Tests.{scalar, by-test, split, within-yes}
 use Rattle.utf8_table.specs.Encoding.{encode}
 use Rattle.utf8_table.specs.WellFormed.{Step, pointOfTwo, pointOfThree, pointOfFour, row}
 use Rattle.utf8_table.specs.ByLead.{leadsTwo, leadsThree, leadsFour, row-one, row-two, row-three, row-four}

@@ -33,8 +33,8 @@ refusal-requires-3 c κs = search needs
 returns-2 : tie.Need-returns-2
 returns-2 c = c .refusal3 .ensures ∙ over-points _ (c .before .before .before .before .before .before .if1 .left) _ (sym (c .before .before .before .count .given .1) ∙ c .before .before .before .before .before .measure .ensures) (c .before .if2 .taken)
 
-cast-t10 : tie.Need-cast-t10
-cast-t10 c = search needs
+cast-points : tie.Need-cast-points
+cast-points c = search needs
 
 returns-3 : tie.Need-returns-3
 returns-3 c = c .refusal2 .ensures ∙ ill-formed _ (c .before .before .before .before .before .if1 .left) _ (sym (c .before .before .place .given .1) ∙ c .before .before .before .before .measure .ensures)
@@ -55,6 +55,6 @@ count-utf8-spec =
     enum-known-count
     refusal-requires-3
     returns-2
-    cast-t10
+    cast-points
     returns-3
     returns-4)

@@ -3,7 +3,7 @@ use Prim.Native.Nat.{_-_}
 use native.Mathlib.Omega.{arith}
 use lib.ListN.{length}
 use borrow.Author.Needs.{needs}
-use Rattle.utf8.proofs.Loops.{Filling, filling-start, filling-one, filling-two, filling-three, filling-four, filling-run-room, filling-run, filling-end}
+use Rattle.utf8.proofs.Filling.{Filling, filling-start, filling-one, filling-two, filling-three, filling-four, filling-run-room, filling-run, filling-end}
 use Rattle.utf8.proofs.fill.Statement.{statement}
 use Rattle.utf8.proofs.fill.Tie as tie
 

@@ -5,8 +5,7 @@ use native.Mathlib.Omega.{arith}
 use lib.ListN.{length}
 use borrow.Author.Tests.{not-true, not-false}
 use borrow.Author.Needs.{needs}
-use Rattle.utf8.proofs.Places.{yes, no, at-two, at-three, at-four}
-use Rattle.utf8.proofs.Loops.{Passed, passed-start, passed-on, passed-ascii, passed-fault, passed-end}
+use Rattle.utf8.proofs.Counting.{Passed, passed-start, passed-ascii, passed-two, passed-three, passed-four, fault-two, fault-three, fault-four, passed-end}
 use Rattle.utf8.proofs.measure.Statement.{statement}
 use Rattle.utf8.proofs.measure.Tie as tie
 
@@ -44,7 +43,7 @@ is-two-requires : tie.Need-is-two-requires Inv-loop μ-loop
 is-two-requires c κs = search needs
 
 returns : tie.Need-returns Inv-loop μ-loop
-returns c = passed-fault _ _ _ (c .before .before .before .before .before .before .loop .inv) (c .before .before .before .before .before .loop-test .taken) (no _ _ (at-two _ _ (c .before .before .before .before .before .loop-test .taken) (c .before .before .before .if1 .left) (c .before .before .if2 .taken)) (sym (c .before .is-two .ensures) ∙ not-true _ (c .if3 .taken)))
+returns c = fault-two _ _ _ (c .before .before .before .before .before .before .loop .inv) (c .before .before .before .before .before .loop-test .taken) (c .before .before .before .if1 .left) (c .before .before .if2 .taken) (sym (c .before .is-two .ensures) ∙ not-true _ (c .if3 .taken))
 
 add-i : tie.Need-add-i Inv-loop μ-loop
 add-i c = search needs
@@ -56,13 +55,13 @@ loop-less-2 : tie.Need-loop-less-2 Inv-loop μ-loop
 loop-less-2 c = search needs
 
 loop-again-2 : tie.Need-loop-again-2 Inv-loop μ-loop
-loop-again-2 c = passed-on _ _ _ (c .before .before .before .before .before .before .loop .inv) 2 _ (yes _ (at-two _ _ (c .before .before .before .before .before .loop-test .taken) (c .before .before .before .if1 .left) (c .before .before .if2 .taken)) (sym (c .before .is-two .ensures) ∙ not-false _ (c .if3 .left))) (omega arith) .next
+loop-again-2 c = passed-two _ _ _ (c .before .before .before .before .before .before .loop .inv) (c .before .before .before .before .before .loop-test .taken) (c .before .before .before .if1 .left) (c .before .before .if2 .taken) (sym (c .before .is-two .ensures) ∙ not-false _ (c .if3 .left))
 
 is-three-requires : tie.Need-is-three-requires Inv-loop μ-loop
 is-three-requires c κs = search needs
 
 returns-2 : tie.Need-returns-2 Inv-loop μ-loop
-returns-2 c = passed-fault _ _ _ (c .before .before .before .before .before .before .before .loop .inv) (c .before .before .before .before .before .before .loop-test .taken) (no _ _ (at-three _ _ (c .before .before .before .before .before .before .loop-test .taken) (c .before .before .before .if2 .left) (c .before .before .if4 .taken)) (sym (c .before .is-three .ensures) ∙ not-true _ (c .if5 .taken)))
+returns-2 c = fault-three _ _ _ (c .before .before .before .before .before .before .before .loop .inv) (c .before .before .before .before .before .before .loop-test .taken) (c .before .before .before .if2 .left) (c .before .before .if4 .taken) (sym (c .before .is-three .ensures) ∙ not-true _ (c .if5 .taken))
 
 add-i-2 : tie.Need-add-i-2 Inv-loop μ-loop
 add-i-2 c = search needs
@@ -74,13 +73,13 @@ loop-less-3 : tie.Need-loop-less-3 Inv-loop μ-loop
 loop-less-3 c = search needs
 
 loop-again-3 : tie.Need-loop-again-3 Inv-loop μ-loop
-loop-again-3 c = passed-on _ _ _ (c .before .before .before .before .before .before .before .loop .inv) 3 _ (yes _ (at-three _ _ (c .before .before .before .before .before .before .loop-test .taken) (c .before .before .before .if2 .left) (c .before .before .if4 .taken)) (sym (c .before .is-three .ensures) ∙ not-false _ (c .if5 .left))) (omega arith) .next
+loop-again-3 c = passed-three _ _ _ (c .before .before .before .before .before .before .before .loop .inv) (c .before .before .before .before .before .before .loop-test .taken) (c .before .before .before .if2 .left) (c .before .before .if4 .taken) (sym (c .before .is-three .ensures) ∙ not-false _ (c .if5 .left))
 
 is-four-requires : tie.Need-is-four-requires Inv-loop μ-loop
 is-four-requires c κs = search needs
 
 returns-3 : tie.Need-returns-3 Inv-loop μ-loop
-returns-3 c = passed-fault _ _ _ (c .before .before .before .before .before .before .before .loop .inv) (c .before .before .before .before .before .before .loop-test .taken) (no _ _ (at-four _ _ (c .before .before .before .before .before .before .loop-test .taken) (c .before .before .if4 .left)) (sym (c .before .is-four .ensures) ∙ not-true _ (c .if6 .taken)))
+returns-3 c = fault-four _ _ _ (c .before .before .before .before .before .before .before .loop .inv) (c .before .before .before .before .before .before .loop-test .taken) (c .before .before .if4 .left) (sym (c .before .is-four .ensures) ∙ not-true _ (c .if6 .taken))
 
 add-i-3 : tie.Need-add-i-3 Inv-loop μ-loop
 add-i-3 c = search needs
@@ -92,7 +91,7 @@ loop-less-4 : tie.Need-loop-less-4 Inv-loop μ-loop
 loop-less-4 c = search needs
 
 loop-again-4 : tie.Need-loop-again-4 Inv-loop μ-loop
-loop-again-4 c = passed-on _ _ _ (c .before .before .before .before .before .before .before .loop .inv) 4 _ (yes _ (at-four _ _ (c .before .before .before .before .before .before .loop-test .taken) (c .before .before .if4 .left)) (sym (c .before .is-four .ensures) ∙ not-false _ (c .if6 .left))) (omega arith) .next
+loop-again-4 c = passed-four _ _ _ (c .before .before .before .before .before .before .before .loop .inv) (c .before .before .before .before .before .before .loop-test .taken) (c .before .before .if4 .left) (sym (c .before .is-four .ensures) ∙ not-false _ (c .if6 .left))
 
 returns-4 : tie.Need-returns-4 Inv-loop μ-loop
 returns-4 c = passed-end _ _ _ (c .before .loop .inv) (c .loop-test .left)

@@ -1,8 +1,8 @@
 -- One ASCII byte, then the eights, then the ones make one run. Assumes nothing.
 use borrow.Author.Needs.{needs}
 use Rattle.utf8.specs.Ascii.{run-first, run-join}
-use Rattle.utf8.proofs.past_ascii.Statement.{statement}
-use Rattle.utf8.proofs.past_ascii.Tie as tie
+use Rattle.utf8.proofs.ascii.past_ascii.Statement.{statement}
+use Rattle.utf8.proofs.ascii.past_ascii.Tie as tie
 
 returns : tie.Need-returns
 returns c = search needs

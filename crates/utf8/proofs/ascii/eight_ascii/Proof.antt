@@ -2,8 +2,8 @@
 use mathlib.Core.Path.{refl}
 use borrow.Author.Needs.{needs}
 use Rattle.utf8.specs.Ascii.{asciiOn}
-use Rattle.utf8.proofs.eight_ascii.Statement.{statement}
-use Rattle.utf8.proofs.eight_ascii.Tie as tie
+use Rattle.utf8.proofs.ascii.eight_ascii.Statement.{statement}
+use Rattle.utf8.proofs.ascii.eight_ascii.Tie as tie
 
 shared-slice-read-result : tie.Need-shared-slice-read-result
 shared-slice-read-result c = search needs

@@ -1,123 +1,21 @@
--- The reader's two loops: what holds when i bytes and n code points are passed. Assumes nothing.
-use Prim.Native.Nat.{ℕ, suc, _+_, _-_, _≤_, _<_}
+-- The second loop, which writes: what holds when i bytes are passed and n places of the output are written. Assumes nothing.
+use Prim.Native.Nat.{ℕ, _+_, _-_, _≤_, _<_}
 use mathlib.Core.Path.{_≡_, refl, sym, ap, subst, _∙_}
 use mathlib.Core.List.{List, [], _∷_, _++_, append-assoc, append-nil}
-use mathlib.Core.Bool.{true, cond}
+use mathlib.Core.Bool.{true}
 use native.Mathlib.Numerals.{add-one}
 use native.Mathlib.Omega.{arith}
-use lib.ListN.{length, getD, take, drop, set, length-set, length-append, length-take, length-drop, take-append-drop}
-use lib.Seq.{paste, paste-zero, paste-suc, take-suc-set, drop-set-lt, drop-drop, length-take-le, length-paste, take-paste, drop-paste, take-length}
-use Rattle.utf8.specs.declared.Measured.the-variants.{Points, Fault}
-use Rattle.utf8_table.specs.WellFormed.{Step, noRow, pointOfTwo, pointOfThree, pointOfFour, byteAt, stepAt}
+use lib.ListN.{length, take, drop, set, length-set, length-append, take-append-drop}
+use lib.Seq.{paste, take-suc-set, drop-set-lt, drop-drop, length-take-le, length-paste, take-paste, drop-paste, take-length}
+use Rattle.utf8_table.specs.WellFormed.{pointOfTwo, pointOfThree, pointOfFour, byteAt, stepAt}
 use Rattle.utf8_table.specs.CompleteLaws.{got}
-use Rattle.utf8.specs.Text.{Reading, ended, after, textOf, faultAt, wellFormed}
-use Rattle.utf8.specs.TextLaws.{from, past, from-start, from-end, from-step, step-fits, whole-is, is-whole, is-broken}
-use Rattle.utf8.specs.Ascii.{AsciiRun, run-first, run-text}
-use Rattle.utf8.specs.Answer.{measured, filled}
+use Rattle.utf8.specs.Text.{Reading, after, textOf, wellFormed}
+use Rattle.utf8.specs.TextLaws.{from, past, from-start, from-end, whole-is}
+use Rattle.utf8.specs.Ascii.{AsciiRun, run-text}
+use Rattle.utf8.specs.Answer.{filled}
 use Rattle.utf8.proofs.Places.{at-one, some-two, some-three, some-four}
+use Rattle.utf8.proofs.Going.{goes-on, fits, run-length}
 
--- a place where a code point stands is followed by the rest of the reading
-goes-on : (bytes : List ℕ) (i k p : ℕ) → stepAt bytes i ≡ got k p → 1 ≤ k → from bytes i ≡ after (p ∷ []) (from bytes (i + k))
-goes-on bytes i k p e h =
-    from-step bytes i (λ z. let y : k ≡ 0 = rw e at z in omega arith) ∙ rw e
-
-fits : (bytes : List ℕ) (i k p : ℕ) → stepAt bytes i ≡ got k p → 1 ≤ k → i + k ≤ length bytes
-fits bytes i k p e h = rw e at (step-fits bytes i (λ z. let y : k ≡ 0 = rw e at z in omega arith))
-
-run-length : (bytes : List ℕ) (i j : ℕ) → AsciiRun bytes i j → length (take (j - i) (drop i bytes)) ≡ j - i
-run-length bytes i j r = length-take-le (j - i) (drop i bytes) (omega (arith, length-drop i bytes, r .inside))
-
--- the first loop, which counts
-pub record Passed (bytes : List ℕ) (i n : ℕ) : Type 0 where
-  pub here : i ≤ length bytes
-  pub few : n ≤ i
-  pub stops : from bytes i .stop ≡ faultAt bytes
-  pub counts : n + length (from bytes i .text) ≡ length (textOf bytes)
-
--- one sequence of k bytes more
-pub record PassedOn (bytes : List ℕ) (i n k : ℕ) : Type 0 where
-  pub fits : i + k ≤ length bytes
-  pub next : Passed bytes (i + k) (n + 1)
-
-module _ (bytes : List ℕ) where
-  pub passed-start : Passed bytes 0 0
-  passed-start =
-      record {
-        here = omega arith;
-        few = omega arith;
-        stops = ap (λ (r : Reading). r .stop) (from-start bytes);
-        counts = omega (arith, ap (λ (r : Reading). length (r .text)) (from-start bytes));
-      }
-
-  module _ (i n : ℕ) (p : Passed bytes i n) where
-    -- the code points ps stand between i and j
-    passed-more : (ps : List ℕ) (j : ℕ) → from bytes i ≡ after ps (from bytes j) → j ≤ length bytes → i + length ps ≤ j
-        → Passed bytes j (n + length ps)
-    passed-more ps j e h k =
-        record {
-          here = h;
-          few = omega arith;
-          stops = sym (ap (λ (r : Reading). r .stop) e) ∙ p .stops;
-          counts =
-              omega
-              (arith, p .counts, ap (λ (r : Reading). length (r .text)) e, length-append ps (from bytes j .text));
-        }
-
-    pub passed-on : (k q : ℕ) → stepAt bytes i ≡ got k q → 1 ≤ k → PassedOn bytes i n k
-    passed-on k q e h =
-        record {
-          fits = fits bytes i k q e h;
-          next = passed-more (q ∷ []) (i + k) (goes-on bytes i k q e h) (fits bytes i k q e h) (omega arith);
-        }
-
-    pub passed-ascii : (j : ℕ) → i < length bytes → byteAt bytes i < 0x80 → AsciiRun bytes (i + 1) j → Passed bytes j (n + (j - i))
-    passed-ascii j h k s =
-        let r = run-first bytes i j h k s in
-        let l = run-length bytes i j r in
-        rw l at (passed-more (take (j - i) (drop i bytes)) j (run-text bytes i j r) (r .inside) (omega (arith, l, r .here)))
-
-    pub passed-fault : i < length bytes → stepAt bytes i ≡ noRow → Fault i ≡ measured bytes
-    unfolding measured
-    passed-fault h e =
-        let s : i ≡ faultAt bytes = sym (ap (λ (r : Reading). r .stop) (from-end bytes i (ap (λ (s : Step). s .size) e))) ∙ p .stops in
-        rw (is-broken bytes (omega arith)) (ap Fault s)
-
-    pub passed-end : length bytes ≤ i → Points n ≡ measured bytes
-    unfolding measured
-    passed-end h =
-        let e = from-end bytes i (past bytes i h) in
-        let s : i ≡ faultAt bytes = sym (ap (λ (r : Reading). r .stop) e) ∙ p .stops in
-        let c : n ≡ length (textOf bytes) = omega (arith, p .counts, ap (λ (r : Reading). length (r .text)) e) in
-        rw (is-whole bytes (omega arith)) (ap Points c)
-
--- k of the ASCII bytes stand in out from `at` on
-pub record Widened (ascii old out : List ℕ) (at k : ℕ) : Type 0 where
-  pub here : k ≤ length ascii
-  pub same : length out ≡ length old
-  pub copied : out ≡ paste old at ascii k
-
-module _ (ascii old : List ℕ) (at : ℕ) where
-  pub widened-start : Widened ascii old old at 0
-  widened-start = record { here = omega arith; same = refl; copied = paste-zero old at ascii }
-
-  module _ (out : List ℕ) (k : ℕ) (w : Widened ascii old out at k) where
-    pub widened-more : (v : ℕ) → at + length ascii ≤ length old → k < length ascii → v ≡ getD ascii k 0
-        → Widened ascii old (set out (at + k) v) at (k + 1)
-    widened-more v r h e =
-        record {
-          here = omega arith;
-          same = length-set out (at + k) v ∙ w .same;
-          copied =
-              ap (λ (l : List ℕ). set l (at + k) v) (w .copied)
-              ∙ ap (set (paste old at ascii k) (at + k)) e
-              ∙ paste-suc old at ascii k 0 (omega arith) h
-              ∙ ap (paste old at ascii) (sym (add-one k));
-        }
-
-    pub widened-end : length ascii ≤ k → out ≡ paste old at ascii (length ascii)
-    widened-end h = let e : k ≡ length ascii = omega (arith, w .here) in w .copied ∙ ap (paste old at ascii) e
-
--- the second loop, which writes
 pub record Filling (bytes old out : List ℕ) (i n : ℕ) : Type 0 where
   pub here : i ≤ length bytes
   pub stops : from bytes i .stop ≡ length bytes

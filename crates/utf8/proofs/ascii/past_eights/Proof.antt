@@ -6,8 +6,8 @@ use lib.ListN.{length}
 use borrow.Author.Tests.{not-false}
 use borrow.Author.Needs.{needs}
 use Rattle.utf8.specs.Ascii.{AsciiRun, run-none, run-eight}
-use Rattle.utf8.proofs.past_eights.Statement.{statement}
-use Rattle.utf8.proofs.past_eights.Tie as tie
+use Rattle.utf8.proofs.ascii.past_eights.Statement.{statement}
+use Rattle.utf8.proofs.ascii.past_eights.Tie as tie
 
 abbrev Inv-loop : tie.InvT-loop
 Inv-loop b i j₀ j = AsciiRun b i j

@@ -3,8 +3,8 @@ use Prim.Native.Nat.{_-_}
 use lib.ListN.{length}
 use borrow.Author.Needs.{needs}
 use Rattle.utf8.specs.Ascii.{AsciiRun, run-none, run-more}
-use Rattle.utf8.proofs.past_ones.Statement.{statement}
-use Rattle.utf8.proofs.past_ones.Tie as tie
+use Rattle.utf8.proofs.ascii.past_ones.Statement.{statement}
+use Rattle.utf8.proofs.ascii.past_ones.Tie as tie
 
 abbrev Inv-loop : tie.InvT-loop
 Inv-loop b i j₀ j = AsciiRun b i j

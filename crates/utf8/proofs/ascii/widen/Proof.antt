@@ -2,9 +2,9 @@
 use Prim.Native.Nat.{_-_}
 use lib.ListN.{length}
 use borrow.Author.Needs.{needs}
-use Rattle.utf8.proofs.Loops.{Widened, widened-start, widened-more, widened-end}
-use Rattle.utf8.proofs.widen.Statement.{statement}
-use Rattle.utf8.proofs.widen.Tie as tie
+use Rattle.utf8.proofs.Widening.{Widened, widened-start, widened-more, widened-end}
+use Rattle.utf8.proofs.ascii.widen.Statement.{statement}
+use Rattle.utf8.proofs.ascii.widen.Tie as tie
 
 abbrev Inv-loop : tie.InvT-loop
 Inv-loop ascii out₀ at k₀ out k = Widened ascii out₀ out at k
