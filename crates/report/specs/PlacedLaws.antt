@@ -66,7 +66,9 @@ pub score-pieces : (s : Score)
     → codes "score " ++ hex (toBits binary32 (s .sum)) ++ (codes " fed " ++ decimal (s .fed)) ++ (codes " stopped " ++ decimal (bump (s .stopped))) ++ codes "\n"
     ≡ line (Told s)
 unfolding line
-score-pieces s = grouped (codes "score ") (hex (toBits binary32 (s .sum))) (codes " fed ") (decimal (s .fed)) (codes " stopped ") (decimal (bump (s .stopped))) (codes "\n")
+score-pieces s =
+    grouped (codes "score ") (hex (toBits binary32 (s .sum))) (codes " fed ") (decimal (s .fed)) (codes " stopped ") (decimal (bump (s .stopped)))
+    (codes "\n")
 
 pub refused-pieces : (r : Refusal)
     → codes "refused " ++ decimal (r .number) ++ (codes " at " ++ decimal (r .place)) ++ codes "\n" ≡ line (Refused r)

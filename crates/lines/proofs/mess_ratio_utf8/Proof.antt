@@ -20,25 +20,39 @@ cast-n : tie.Need-cast-n
 cast-n c = search needs
 
 through-short-requires : tie.Need-through-short-requires
-through-short-requires c κs = (readable _ _ (sym (c .before .before .count .given .1) ∙ c .before .before .before .before .count-utf8 .ensures), c .if1 .taken)
+through-short-requires c κs =
+    let met = c .before .before in
+    (readable _ _ (sym (met .count .given .1) ∙ met .before .before .count-utf8 .ensures), c .if1 .taken)
 
 returns : tie.Need-returns
-returns c = c .through-short .ensures ∙ read _ _ _ _ _ (sym (c .before .before .before .count .given .1) ∙ c .before .before .before .before .before .count-utf8 .ensures)
+returns c =
+    let met = c .before .before .before in
+    c .through-short .ensures ∙ read _ _ _ _ _ (sym (met .count .given .1) ∙ met .before .before .count-utf8 .ensures)
 
 through-middle-requires : tie.Need-through-middle-requires
-through-middle-requires c κs = (readable _ _ (sym (c .before .before .before .count .given .1) ∙ c .before .before .before .before .before .count-utf8 .ensures), c .if2 .taken)
+through-middle-requires c κs =
+    let met = c .before .before .before in
+    (readable _ _ (sym (met .count .given .1) ∙ met .before .before .count-utf8 .ensures), c .if2 .taken)
 
 returns-2 : tie.Need-returns-2
-returns-2 c = c .through-middle .ensures ∙ read _ _ _ _ _ (sym (c .before .before .before .before .count .given .1) ∙ c .before .before .before .before .before .before .count-utf8 .ensures)
+returns-2 c =
+    let met = c .before .before .before .before in
+    c .through-middle .ensures ∙ read _ _ _ _ _ (sym (met .count .given .1) ∙ met .before .before .count-utf8 .ensures)
 
 through-long-requires : tie.Need-through-long-requires
-through-long-requires c κs = readable _ _ (sym (c .before .before .before .count .given .1) ∙ c .before .before .before .before .before .count-utf8 .ensures)
+through-long-requires c κs =
+    let met = c .before .before .before in
+    readable _ _ (sym (met .count .given .1) ∙ met .before .before .count-utf8 .ensures)
 
 returns-3 : tie.Need-returns-3
-returns-3 c = unread _ _ _ _ _ (sym (c .before .why .given .1) ∙ c .before .before .before .count-utf8 .ensures)
+returns-3 c =
+    let met = c .before in
+    unread _ _ _ _ _ (sym (met .why .given .1) ∙ met .before .before .count-utf8 .ensures)
 
 returns-4 : tie.Need-returns-4
-returns-4 c = c .through-long .ensures ∙ read _ _ _ _ _ (sym (c .before .before .before .before .count .given .1) ∙ c .before .before .before .before .before .before .count-utf8 .ensures)
+returns-4 c =
+    let met = c .before .before .before .before in
+    c .through-long .ensures ∙ read _ _ _ _ _ (sym (met .count .given .1) ∙ met .before .before .count-utf8 .ensures)
 
 pub mess-ratio-utf8-spec : {M : Type 1} → statement M
 mess-ratio-utf8-spec =

@@ -22,7 +22,9 @@ same-length : tie.Need-same-length
 same-length c = search needs
 
 returns : tie.Need-returns
-returns c = rw (c .mess-ratio .ensures, c .before .before .before .before .fill .ensures, text-back _ _ _ (c .before .before .before .before .before .before .before .before .before .before .pre .0 .count))
+returns c =
+    let filling = c .before .before .before .before in
+    rw (c .mess-ratio .ensures, filling .fill .ensures, text-back _ _ _ (filling .before .before .before .before .before .before .pre .0 .count))
 
 pub through-spec : {M : Type 1} → statement M
 through-spec =

@@ -19,7 +19,7 @@ enum-known-score : tie.Need-enum-known-score
 enum-known-score c = search needs
 
 put-score-requires : tie.Need-put-score-requires
-put-score-requires c κs = (answer-plain _ _ (sym (c .before .before .score .given .1) ∙ c .before .before .before .before .answer .ensures) .no-nan, search needs)
+put-score-requires c κs = (answer-plain _ _ (sym (c .before .before .score .given .1) ∙ c .before .before .before .before .answer .ensures) .sum .no-nan, search needs)
 
 returns : tie.Need-returns
 returns c = goes-whole _ _ _ _ _ (sym (c .before .before .before .why .given .1) ∙ c .before .before .before .before .before .answer .ensures) (c .put-refused .ensures)
