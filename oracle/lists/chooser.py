@@ -64,6 +64,8 @@ def main():
         put([NEWLINE] * n, [NEWLINE])
     # both reach 0.2 at the first checkpoint; what follows parts them
     noisy = [ord(c) for c in "?!#%&@" * 6][:32]
+    if as_float(oracle.sum_alone(noisy)) < as_float(DEFAULT):
+        sys.exit("chooser.py: the noisy text does not reach 0.2 at its first checkpoint")
     calm = [ord(c) for c in "the points are set and locked "] * 3
     for tail in (calm, noisy + calm, calm + noisy):
         put(noisy + tail, noisy + noisy + noisy)

@@ -231,6 +231,7 @@ def main():
         (LONGEST_TEXT + 1, DEFAULT, PAIR_BYTES, 23),
     ):
         put(REPEATED, threshold, pair_bytes, class_bytes, [1, 0] + refused, words([length, 97]))
+    put(REPEATED, DEFAULT, PAIR_BYTES, len(table), [1, 0] + refused, words([LONGEST_TEXT + 1, 0xD800]))
     for length, threshold in ((LONGEST_TEXT, 0x7F7FFFFF), (LONGEST_TEXT, 0), (LONGEST_TEXT - 1, 0x7F7FFFFF)):
         put(REPEATED, threshold, PAIR_BYTES, len(table), oracle.mess(threshold, [0x4E04] * length), words([length, 0x4E04]))
 
