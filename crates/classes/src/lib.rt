@@ -6,7 +6,7 @@ ghost use lib.Dec.{eqb};
 ghost use lib.ListN.{length};
 ghost use Rattle.bits.specs.Limits.{BUILTIN-END, LAST-RANGE, PAIR-BYTES};
 ghost use Rattle.builtin.specs.Words.{packedWords};
-ghost use Rattle.records.specs.Records.{goodTable};
+ghost use Rattle.records.specs.Records.{goodTable, holder};
 ghost use Rattle.classes.specs.Lookup.{orSelf, builtinClass, lentClass, classOf};
 ghost use Rattle.classes.specs.Check.{checked, refusedAt};
 ghost use Rattle.classes.specs.Pairs.{suspicious};
@@ -27,6 +27,9 @@ pub struct Class {
     pub base: u32,
     pub lower: u32,
 }
+
+// How many hints a lookup is lent: the letters of an alphabet have a place each.
+pub const HINTS: usize = 64;
 
 // What the lookup finds.
 pub enum Found {
@@ -61,14 +64,13 @@ fn builtin_class(point: u32, table: &[u64; 592]) -> Class
     }
 }
 
-// The class that the lent records give a code point.
-fn lent_class(point: u32, classes: &[u8]) -> Found
-    requires { ⌜ goodTable (now classes) ≡ true ⌝ }
+// The class that the lent record `at` gives a code point that it holds; nothing where `at` is the number of records, since none does.
+fn class_in(point: u32, at: usize, classes: &[u8]) -> Found
+    requires { ⌜ at ≡ holder (now classes) point ⌝ }
     ensures { λ r. ⌜ r ≡ lentClass (now (classes .entry)) point ⌝ }
 {
-    let i = records::search::find(classes, point);
-    if i < classes.len() / CLASS_RECORD {
-        let r = records::record_at(classes, i);
+    if at < classes.len() / CLASS_RECORD {
+        let r = records::record_at(classes, at);
         return Found::At(Class {
             point,
             flags: r.flags,
@@ -78,6 +80,14 @@ fn lent_class(point: u32, classes: &[u8]) -> Found
         });
     }
     Found::Nothing
+}
+
+// The class that the lent records give a code point.
+fn lent_class(point: u32, classes: &[u8]) -> Found
+    requires { ⌜ goodTable (now classes) ≡ true ⌝ }
+    ensures { λ r. ⌜ r ≡ lentClass (now (classes .entry)) point ⌝ }
+{
+    class_in(point, records::search::find(classes, point), classes)
 }
 
 // The class of a code point: below BUILTIN_END the built-in table's, past it that of the lent record that holds it. The built-in table is lent
@@ -91,6 +101,26 @@ pub fn look_up_in(point: u32, table: &[u64; 592], classes: &[u8]) -> Found
         return Found::At(builtin_class(point, table));
     }
     lent_class(point, classes)
+}
+
+// The same for the code points of a text, one after the other. `hints` are the records found last, a place for each remainder of a code point, so
+// that most are found without a search; whatever stands there, the answer is the same.
+pub fn look_up_near(
+    point: u32,
+    hints: &mut [usize; HINTS],
+    table: &[u64; 592],
+    classes: &[u8],
+) -> Found
+    requires { ⌜ (goodTable (now classes) ≡ true) × (now table ≡ packedWords) ⌝ }
+    ensures { λ r. ⌜ r ≡ classOf (now (classes .entry)) point ⌝ }
+{
+    if BUILTIN_END <= point {
+        let k = point as usize % HINTS;
+        let at = records::search::find_near(classes, point, hints[k]);
+        hints[k] = at;
+        return class_in(point, at, classes);
+    }
+    Found::At(builtin_class(point, table))
 }
 
 // The same for one code point. It makes the built-in table: a thousand instructions, so not for a loop.

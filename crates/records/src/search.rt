@@ -1,8 +1,9 @@
-// The search for the record that holds a code point.
+// The search for the record that holds a code point, by halving.
 ghost use mathlib.Core.Bool.{true};
 ghost use mathlib.Core.Path.{_≡_};
 ghost use Prim.Native.Nat.{_<_};
-ghost use Rattle.records.specs.Records.{records, goodTable, holds, holder};
+ghost use Rattle.records.specs.Records.{records, recordAt, goodTable, holds, holder};
+ghost use Rattle.records.specs.Halving.{ending};
 use crate::u32_at;
 use bits::limits::CLASS_RECORD;
 
@@ -14,18 +15,64 @@ fn is_holder(t: &[u8], p: u32, i: usize) -> bool
     (u32_at(t, at) <= p) & (p <= u32_at(t, at + 4))
 }
 
+fn first_of(t: &[u8], i: usize) -> u32
+    requires { ⌜ i < records (now t) ⌝ }
+    ensures { λ r. ⌜ r ≡ recordAt (now (t .entry)) i .first ⌝ }
+{
+    u32_at(t, i * CLASS_RECORD)
+}
+
+fn last_of(t: &[u8], i: usize) -> u32
+    requires { ⌜ i < records (now t) ⌝ }
+    ensures { λ r. ⌜ r ≡ recordAt (now (t .entry)) i .last ⌝ }
+{
+    u32_at(t, i * CLASS_RECORD + 4)
+}
+
+// The first record of a good table that ends at p or past it, or the number of records. Those before `low` end before p, those from `high` on do not.
+fn first_ending(t: &[u8], p: u32) -> usize
+    requires { ⌜ goodTable (now t) ≡ true ⌝ }
+    ensures { λ r. ⌜ r ≡ ending (now (t .entry)) p ⌝ }
+{
+    let mut low = 0;
+    let mut high = t.len() / CLASS_RECORD;
+    while low < high {
+        let middle = low + (high - low) / 2;
+        if last_of(t, middle) < p {
+            low = middle + 1;
+        } else {
+            high = middle;
+        }
+    }
+    low
+}
+
 // The record of a good table that holds p, or the number of records.
 pub fn find(t: &[u8], p: u32) -> usize
     requires { ⌜ goodTable (now t) ≡ true ⌝ }
     ensures { λ r. ⌜ r ≡ holder (now (t .entry)) p ⌝ }
 {
-    let n = t.len() / CLASS_RECORD;
-    let mut i = 0;
-    while i < n {
-        if is_holder(t, p, i) {
-            return i;
-        }
-        i += 1;
+    let none = t.len() / CLASS_RECORD;
+    let i = first_ending(t, p);
+    if none <= i {
+        return none;
     }
-    i
+    if first_of(t, i) <= p {
+        return i;
+    }
+    none
+}
+
+// The same, the record `hint` looked at before the search: the code points of a text mostly stand in a record that held one before. Any number may
+// be the hint.
+pub fn find_near(t: &[u8], p: u32, hint: usize) -> usize
+    requires { ⌜ goodTable (now t) ≡ true ⌝ }
+    ensures { λ r. ⌜ r ≡ holder (now (t .entry)) p ⌝ }
+{
+    if hint < t.len() / CLASS_RECORD {
+        if is_holder(t, p, hint) {
+            return hint;
+        }
+    }
+    find(t, p)
 }

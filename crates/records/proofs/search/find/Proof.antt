@@ -1,51 +1,41 @@
--- The walk has passed only records that do not hold p.
+-- The first record that ends at p or past it is the only one that may hold p, and does where it starts at p or before it.
 -- Assumes nothing.
-use native.Mathlib.Omega.{arith}
-use Prim.Native.Nat.{_-_, _≤_}
-use mathlib.Core.Path.{_≡_, sym, _∙_}
-use Rattle.bits.specs.First.{firstFrom, first-start, first-hit, first-miss, first-end}
-use Rattle.records.specs.Records.{holds, holder}
+use mathlib.Core.Path.{sym, _∙_}
+use Rattle.records.specs.Halving.{ending-past, ending-holds, ending-gap}
+use borrow.Author.Needs.{needs}
 use Rattle.records.proofs.search.find.Statement.{statement}
 use Rattle.records.proofs.search.find.Tie as tie
 
-abbrev Inv-loop : tie.InvT-loop
-Inv-loop t p n i₀ i = (i ≤ n) × (firstFrom (holds t p) n i ≡ holder t p)
+first-ending-requires : tie.Need-first-ending-requires
+first-ending-requires c κs = search needs
 
-abbrev μ-loop : tie.MeasureT-loop
-μ-loop t p n i₀ i = n - i
+returns : tie.Need-returns
+returns c = sym (ending-past _ (c .before .before .before .pre) _ (rw (c .before .first-ending .ensures) at (c .if1 .taken)))
 
-loop-holds : tie.Need-loop-holds Inv-loop μ-loop
-unfolding holder
-loop-holds c = (omega arith, first-start _ _)
+first-of-requires : tie.Need-first-of-requires
+first-of-requires c κs = search needs
 
-is-holder-requires : tie.Need-is-holder-requires Inv-loop μ-loop
-is-holder-requires c κs = omega arith
+returns-2 : tie.Need-returns-2
+returns-2 c =
+    let inside = c .before .before in
+    let is = inside .before .first-ending .ensures in
+    is
+    ∙ sym (ending-holds _ (inside .before .before .before .pre) _ (rw is at (inside .if1 .left))
+    (rw (c .before .first-of .ensures, is) at (c .if2 .taken)))
 
-returns : tie.Need-returns Inv-loop μ-loop
-returns c = sym (first-hit _ _ _ (c .before .before .loop-test .taken) (sym (c .before .is-holder .ensures) ∙ c .if1 .taken)) ∙ c .before .before .before .loop .inv .1
-
-add-i : tie.Need-add-i Inv-loop μ-loop
-add-i c = omega arith
-
-loop-less : tie.Need-loop-less Inv-loop μ-loop
-loop-less c = omega arith
-
-loop-again : tie.Need-loop-again Inv-loop μ-loop
-loop-again c = (omega arith, sym (first-miss _ _ _ (c .before .before .loop-test .taken) (sym (c .before .is-holder .ensures) ∙ c .if1 .left)) ∙ c .before .before .before .loop .inv .1)
-
-returns-2 : tie.Need-returns-2 Inv-loop μ-loop
-returns-2 c = sym (first-end _ _ _ (omega arith)) ∙ c .before .loop .inv .1
+returns-3 : tie.Need-returns-3
+returns-3 c =
+    let inside = c .before .before in
+    let is = inside .before .first-ending .ensures in
+    sym (ending-gap _ (inside .before .before .before .pre) _ (rw is at (inside .if1 .left))
+    (rw (c .before .first-of .ensures, is) at (c .if2 .left)))
 
 pub find-spec : {M : Type 1} → statement M
 find-spec =
     tie.close
     (tie.spec
-    Inv-loop
-    μ-loop
-    loop-holds
-    is-holder-requires
+    first-ending-requires
     returns
-    add-i
-    loop-less
-    loop-again
-    returns-2)
+    first-of-requires
+    returns-2
+    returns-3)
