@@ -1,4 +1,5 @@
 pub mod Alphabet
 pub mod AlphabetLaws
+pub mod Sieve
 pub mod Candidates
 pub mod CandidatesLaws

@@ -4,16 +4,45 @@ ghost use Prim.Native.Nat.{_≤_, _<_};
 ghost use lib.ListN.{length};
 ghost use Rattle.bits.specs.Limits.{LANGUAGE-LETTERS, MOST-LANGUAGES};
 ghost use Rattle.ratio.specs.Fraction.{Small};
+ghost use Rattle.jaro.specs.Among.{among};
 ghost use Rattle.alphabet.specs.Alphabet.{shareOf, isCandidate};
+ghost use Rattle.alphabet.specs.Sieve as spec;
+ghost use Rattle.alphabet.specs.Sieve.{Sieved};
 ghost use Rattle.alphabet.specs.Candidates.{Share, keyOf};
 use bits::one;
 use jaro::holds;
 use ratio::Fraction;
 use ratio::at_least;
 
+// places of a sieve; with more of them fewer letters share one, but each layer's sieve starts clear
+pub const SIEVE: usize = 16384;
+
+// Marks the place of each of the layer's letters in the sieve, so that a letter whose place is not marked need not be looked for.
+pub fn mark(layer: &[u32], sieve: &mut [bool])
+    requires { ⌜ spec.SIEVE ≤ length (now sieve) ⌝ }
+    ensures { λ r. ⌜ Sieved (now (layer .entry)) (now (sieve .exit)) ⌝ }
+{
+    let mut k = 0;
+    while k < layer.len() {
+        sieve[layer[k] as usize % SIEVE] = true;
+        k += 1;
+    }
+}
+
+// Whether x is among the layer's letters.
+fn in_layer(layer: &[u32], sieve: &[bool], x: u32) -> bool
+    requires { ⌜ Sieved (now layer) (now sieve) ⌝ }
+    ensures { λ r. ⌜ r ≡ among x (now (layer .entry)) ⌝ }
+{
+    if !sieve[x as usize % SIEVE] {
+        return false;
+    }
+    holds(layer, x)
+}
+
 // The distinct letters that an alphabet shares with a layer over its distinct letters. A letter is counted where it stands last.
-pub fn share(layer: &[u32], alphabet: &[u32]) -> Fraction
-    requires { ⌜ length (now alphabet) ≤ LANGUAGE-LETTERS ⌝ }
+pub fn share(layer: &[u32], sieve: &[bool], alphabet: &[u32]) -> Fraction
+    requires { ⌜ Sieved (now layer) (now sieve) × (length (now alphabet) ≤ LANGUAGE-LETTERS) ⌝ }
     ensures { λ r. ⌜ r ≡ shareOf (now (layer .entry)) (now (alphabet .entry)) ⌝ }
 {
     let n = alphabet.len();
@@ -23,7 +52,7 @@ pub fn share(layer: &[u32], alphabet: &[u32]) -> Fraction
     while i < n {
         let x = alphabet[i];
         let last = !holds(&alphabet[i + 1..], x);
-        num = num + one(last & holds(layer, x));
+        num = num + one(last & in_layer(layer, sieve, x));
         den = den + one(last);
         i += 1;
     }

@@ -49,8 +49,12 @@ goodSlot used x = cond used (scalar x) (eqb x 0)
 abbrev pub slotGood : List ℕ → ℕ → ℕ → Bool
 slotGood t i k = goodSlot (ltb k (letterCount t i)) (slotAt t i k)
 
+-- the first bad slot of the record i, or their number where none is bad
+abbrev pub firstBadSlot : List ℕ → ℕ → ℕ
+firstBadSlot t i = first (λ k. not (slotGood t i k)) LANGUAGE-LETTERS
+
 unfoldable pub noBadSlot : List ℕ → ℕ → Bool
-noBadSlot t i = eqb (first (λ k. not (slotGood t i k)) LANGUAGE-LETTERS) LANGUAGE-LETTERS
+noBadSlot t i = eqb (firstBadSlot t i) LANGUAGE-LETTERS
 
 -- "numbers nonzero, count 1 to 256, marks at most 3", and the slots
 unfoldable pub goodRecord : List ℕ → ℕ → Bool

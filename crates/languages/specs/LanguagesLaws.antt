@@ -4,14 +4,14 @@
 use Prim.Native.Nat.{ℕ, _+_, _*_, _/_, _%_, _≤_, _<_}
 use mathlib.Core.Path.{_≡_, sym}
 use mathlib.Core.List.{List}
-use mathlib.Core.Bool.{Bool, true, false, not, _&&_, _||_}
+use mathlib.Core.Bool.{Bool, true, false, not, _&&_, and-true}
 use native.Mathlib.Omega.{arith}
 use lib.ListN.{length}
 use lib.Dec.{leb, eqb}
-use borrow.Author.Tests.{leb-true, le-leb, lt-leb, lt-ltb, eqb-true, eqb-false, eq-eqb, ne-eqb, not-true, not-false}
+use borrow.Author.Tests.{leb-true, le-leb, lt-leb, lt-ltb, le-ltb, eqb-true, eqb-false, eq-eqb, ne-eqb, not-true, not-false}
 use Rattle.bits.specs.First.{first, first-before, first-found, first-within}
 use Rattle.bits.specs.Limits.{LANGUAGE-RECORD, LANGUAGE-LETTERS, MOST-LANGUAGES, MOST-MARKS}
-use Rattle.bits.specs.Tests.{scalar, within, within-lo, within-hi, by-bool, split, and-l, and-r}
+use Rattle.bits.specs.Tests.{scalar, within, within-lo, within-hi, within-above, by-bool, split, and-l, and-r}
 use Rattle.records.specs.LittleEndian.{Word}
 use Rattle.languages.specs.Languages.{languages, numberOf, letterCount, marksOf, slotAt, goodSlot, slotGood, noBadSlot, goodRecord, firstBad, goodLanguages, firstRecord}
 
@@ -50,11 +50,27 @@ module _ (g : ℕ → Bool) (n : ℕ) where
       let z : failure ≡ n = eqb-true _ _ e in
       not-false _ (first-before (λ j. not (g j)) n k (omega arith))
 
--- an unused slot is 0, and 0 is a scalar value
-pub slot-test : (used : Bool) (x : ℕ) → (scalar x && (used || eqb x 0)) ≡ goodSlot used x
-unfolding goodSlot scalar
-slot-test true x = by-bool (scalar x) (λ e. rw e) (λ e. rw e)
-slot-test false x = by-bool (eqb x 0) (λ e. rw (e, eqb-true x 0 e)) (λ e. by-bool (scalar x) (λ s. rw (e, s)) (λ s. rw (e, s)))
+-- the two kinds of slot, and the number of letters
+module _ (t : List ℕ) (i : ℕ) where
+  pub slot-used : (k : ℕ) → k < letterCount t i → scalar (slotAt t i k) ≡ slotGood t i k
+  unfolding goodSlot
+  slot-used k h = rw (lt-ltb k (letterCount t i) h)
+
+  pub slot-unused : (k : ℕ) → letterCount t i ≤ k → eqb (slotAt t i k) 0 ≡ slotGood t i k
+  unfolding goodSlot
+  slot-unused k h = rw (le-ltb k (letterCount t i) h)
+
+  pub too-many-letters : LANGUAGE-LETTERS < letterCount t i → goodRecord t i ≡ false
+  unfolding goodRecord
+  too-many-letters h =
+      by-bool (eqb (numberOf t i) 0)
+      (λ e. rw e)
+      (λ e. rw (e, within-above 1 LANGUAGE-LETTERS (letterCount t i) (omega arith) h))
+
+  pub few-letters : letterCount t i ≤ LANGUAGE-LETTERS
+      → (not (eqb (numberOf t i) 0) && leb 1 (letterCount t i) && leb (marksOf t i) MOST-MARKS && noBadSlot t i) ≡ goodRecord t i
+  unfolding goodRecord
+  few-letters h = rw (le-leb (letterCount t i) LANGUAGE-LETTERS h, and-true (leb 1 (letterCount t i)))
 
 -- the fields of a good table's records
 pub record Fields (t : List ℕ) (i : ℕ) : Type 0 where

@@ -1,10 +1,12 @@
 // The lent language table: its records, whether they are good, and the first record with a number.
 ghost use mathlib.Core.Bool.{true};
 ghost use mathlib.Core.Path.{_≡_};
-ghost use Prim.Native.Nat.{_<_};
+ghost use Prim.Native.Nat.{_<_, _≤_};
+ghost use lib.Dec.{leb};
 ghost use lib.ListN.{getD};
 ghost use Rattle.bits.specs.Limits.{LANGUAGE-LETTERS};
-ghost use Rattle.languages.specs.Languages.{languages, numberOf, letterCount, marksOf, slotAt, hasAccents, pureLatin, goodSlot, noBadSlot, goodRecord, firstBad, goodLanguages, firstRecord};
+ghost use Rattle.bits.specs.Tests.{scalar};
+ghost use Rattle.languages.specs.Languages.{languages, numberOf, letterCount, marksOf, slotAt, hasAccents, pureLatin, firstBadSlot, noBadSlot, goodRecord, firstBad, goodLanguages, firstRecord};
 ghost use Rattle.languages.specs.Letters.{lettersOf};
 ghost use Rattle.languages.specs.Check.{refusedAt, answered, checked};
 use bits::Refusal;
@@ -86,23 +88,35 @@ pub fn letter_at(t: &[u8], i: usize, k: usize) -> u32
     slot_at(t, i, k)
 }
 
-// A used slot has a scalar value, an unused one 0, which is a scalar value too.
-fn slot_good(used: bool, x: u32) -> bool
-    ensures { λ r. ⌜ r ≡ goodSlot used x ⌝ }
+fn is_scalar(x: u32) -> bool
+    ensures { λ r. ⌜ r ≡ scalar x ⌝ }
 {
-    (x <= LAST_POINT) & !((SURROGATE_FIRST <= x) & (x <= SURROGATE_LAST)) & (used | (x == 0))
+    (x <= LAST_POINT) & !((SURROGATE_FIRST <= x) & (x <= SURROGATE_LAST))
 }
 
-// With no early exit, so that the compiler takes several slots at a time.
-fn slots_good(t: &[u8], i: usize) -> bool
-    requires { ⌜ i < languages (now t) ⌝ }
-    ensures { λ r. ⌜ r ≡ noBadSlot (now (t .entry)) i ⌝ }
+// Whether none of the n used slots is bad. As in the next function there is no early exit, so that the compiler takes several slots at a time.
+fn used_good(t: &[u8], i: usize, n: usize) -> bool
+    requires { ⌜ (i < languages (now t)) × (n ≡ letterCount (now t) i) × (n ≤ LANGUAGE-LETTERS) ⌝ }
+    ensures { λ r. ⌜ r ≡ leb n (firstBadSlot (now (t .entry)) i) ⌝ }
 {
-    let n = count_at(t, i);
     let mut good = true;
     let mut k = 0;
+    while k < n {
+        good = good & is_scalar(slot_at(t, i, k));
+        k += 1;
+    }
+    good
+}
+
+// Whether no slot is bad, where `used` says it of the used ones.
+fn slots_good(t: &[u8], i: usize, n: usize, used: bool) -> bool
+    requires { ⌜ (i < languages (now t)) × (n ≡ letterCount (now t) i) × (n ≤ LANGUAGE-LETTERS) × (used ≡ leb n (firstBadSlot (now t) i)) ⌝ }
+    ensures { λ r. ⌜ r ≡ noBadSlot (now (t .entry)) i ⌝ }
+{
+    let mut good = used;
+    let mut k = n;
     while k < LANGUAGE_LETTERS {
-        good = good & slot_good(k < n, slot_at(t, i, k));
+        good = good & (slot_at(t, i, k) == 0);
         k += 1;
     }
     good
@@ -113,10 +127,13 @@ fn record_good(t: &[u8], i: usize) -> bool
     ensures { λ r. ⌜ r ≡ goodRecord (now (t .entry)) i ⌝ }
 {
     let n = count_at(t, i);
+    if n > LANGUAGE_LETTERS {
+        return false;
+    }
     (number_at(t, i) != 0)
-        & ((1 <= n) & (n <= LANGUAGE_LETTERS))
+        & (1 <= n)
         & (marks_at(t, i) <= MOST_MARKS)
-        & slots_good(t, i)
+        & slots_good(t, i, n, used_good(t, i, n))
 }
 
 // The first bad record, or the number of records.

@@ -1,17 +1,13 @@
-// The matches of the layers, one after the other: which are kept, where a layer ends, and the best score of each language (cd.rs: coherence_ratio's
-// loop, and filter_alt_coherence_matches).
+// What the matches that are kept come to: how many are sufficient, and the best score of each language (cd.rs: coherence_ratio's count, and
+// filter_alt_coherence_matches).
 ghost use mathlib.Core.Path.{_≡_};
-ghost use Prim.Native.Nat.{ℕ, _<_, _≤_};
-ghost use lib.ListN.{length, getD};
-ghost use Rattle.bits.specs.Limits.{MOST-LANGUAGES, MOST-INCLUDED};
+ghost use Prim.Native.Nat.{_<_, _≤_};
+ghost use Rattle.bits.specs.Limits.{MOST-LANGUAGES};
 ghost use Rattle.standing.specs.Standing as spec;
 use bits::limits::MOST_LANGUAGES;
 
 // From this score up a match is sufficient: f32 0.8.
 const SUFFICIENT: f32 = 0.8;
-
-// so many sufficient matches end a layer
-const ENOUGH: u32 = 3;
 
 // What the matches kept so far come to: how many were sufficient, and for each first record of a language whether a match of it was kept, and
 // the best score of those.
@@ -53,7 +49,8 @@ fn higher(was: bool, old: f32, new: f32) -> f32
 }
 
 impl Standing {
-    fn keep(self, at: usize, score: f32) -> Standing
+    // A match is kept: the first record of its language, and its score.
+    pub fn keep(self, at: usize, score: f32) -> Standing
         requires { ⌜ (at < MOST-LANGUAGES) × (self .sufficient ≤ spec.MOST-SUFFICIENT) ⌝ }
         ensures { λ r. ⌜ r ≡ spec.keep self at score ⌝ }
     {
@@ -69,29 +66,4 @@ impl Standing {
             best: best,
         }
     }
-}
-
-// The matches of one layer, in order: the first record of each language, and the score.
-pub fn walk(standing: Standing, records: &[u32], scores: &[f32], threshold: f32) -> Standing
-    requires { ⌜ (length (now records) ≡ length (now scores)) × (length (now records) ≤ MOST-INCLUDED) × (standing .sufficient ≤ spec.MOST-BEFORE) ⌝ }
-    requires { ⌜ ((i : ℕ) → i < length (now records) → getD (now records) i 0 < MOST-LANGUAGES) ⌝ }
-    ensures { λ r. ⌜ r ≡ spec.walk threshold standing (now (records .entry)) (now (scores .entry)) ⌝ }
-{
-    let mut s = standing;
-    let mut i = 0;
-    while i < records.len() {
-        let score = scores[i];
-        if score < threshold {
-            i += 1;
-        } else {
-            let at = records[i] as usize;
-            s = s.keep(at, score);
-            let n = s.sufficient;
-            if ENOUGH <= n {
-                return s;
-            }
-            i += 1;
-        }
-    }
-    s
 }

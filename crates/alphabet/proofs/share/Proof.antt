@@ -1,17 +1,17 @@
 -- What is counted before i, and what is left from i on, is all (`Counting`).
 -- Assumes nothing.
-use native.Mathlib.Omega.{arith}
 use Prim.Native.Nat.{_-_}
+use native.Mathlib.Omega.{arith}
 use Rattle.alphabet.specs.AlphabetLaws.{Counting, counting-start, counting-more, counting-end}
 use borrow.Author.Needs.{needs}
 use Rattle.alphabet.proofs.share.Statement.{statement}
 use Rattle.alphabet.proofs.share.Tie as tie
 
 abbrev Inv-loop : tie.InvT-loop
-Inv-loop layer alphabet n num₀ den₀ i₀ num den i = Counting layer alphabet num den i
+Inv-loop layer sieve alphabet n num₀ den₀ i₀ num den i = Counting layer alphabet num den i
 
 abbrev μ-loop : tie.MeasureT-loop
-μ-loop layer alphabet n num₀ den₀ i₀ num den i = n - i
+μ-loop layer sieve alphabet n num₀ den₀ i₀ num den i = n - i
 
 loop-holds : tie.Need-loop-holds Inv-loop μ-loop
 loop-holds c = counting-start _ _
@@ -40,20 +40,20 @@ part-holds-end c = search needs
 holds-requires : tie.Need-holds-requires Inv-loop μ-loop
 holds-requires c κs = search needs
 
-holds-requires-2 : tie.Need-holds-requires-2 Inv-loop μ-loop
-holds-requires-2 c κs = search needs
+in-layer-requires : tie.Need-in-layer-requires Inv-loop μ-loop
+in-layer-requires c κs = c .before .before .before .before .before .before .before .before .pre .0
 
 one-requires : tie.Need-one-requires Inv-loop μ-loop
 one-requires c κs = search needs
 
 add-num : tie.Need-add-num Inv-loop μ-loop
-add-num c = omega (arith, c .before .before .before .before .before .before .loop .inv .less, c .one .ensures .small, c .before .before .before .before .before .loop-test .taken, c .before .before .before .before .before .before .before .before .before .pre)
+add-num c = omega (arith, c .before .before .before .before .before .before .loop .inv .less, c .one .ensures .small, c .before .before .before .before .before .loop-test .taken, c .before .before .before .before .before .before .before .before .before .before .pre .1)
 
 one-requires-2 : tie.Need-one-requires-2 Inv-loop μ-loop
 one-requires-2 c κs = search needs
 
 add-den : tie.Need-add-den Inv-loop μ-loop
-add-den c = omega (arith, c .before .before .before .before .before .before .before .loop .inv .few, c .one2 .ensures .small, c .before .before .before .before .before .before .loop-test .taken, c .before .before .before .before .before .before .before .before .before .before .pre)
+add-den c = omega (arith, c .before .before .before .before .before .before .before .loop .inv .few, c .one2 .ensures .small, c .before .before .before .before .before .before .loop-test .taken, c .before .before .before .before .before .before .before .before .before .before .before .pre .1)
 
 add-i : tie.Need-add-i Inv-loop μ-loop
 add-i c = search needs
@@ -62,7 +62,7 @@ loop-less : tie.Need-loop-less Inv-loop μ-loop
 loop-less c = search needs
 
 loop-again : tie.Need-loop-again Inv-loop μ-loop
-loop-again c = counting-more _ _ (c .before .before .before .before .before .before .before .loop .inv) (c .before .before .before .before .before .before .loop-test .taken) _ _ (rw (c .before .before .before .holds .ensures, c .before .before .holds2 .ensures) at (c .before .one .ensures)) (rw (c .before .before .before .holds .ensures) at (c .one2 .ensures))
+loop-again c = counting-more _ _ (c .before .before .before .before .before .before .before .loop .inv) (c .before .before .before .before .before .before .loop-test .taken) _ _ (rw (c .before .before .before .holds .ensures, c .before .before .in-layer .ensures) at (c .before .one .ensures)) (rw (c .before .before .before .holds .ensures) at (c .one2 .ensures))
 
 returns : tie.Need-returns Inv-loop μ-loop
 returns c = counting-end _ _ (c .before .loop .inv) (c .loop-test .left)
@@ -82,7 +82,7 @@ share-spec =
     part-holds-start
     part-holds-end
     holds-requires
-    holds-requires-2
+    in-layer-requires
     one-requires
     add-num
     one-requires-2
