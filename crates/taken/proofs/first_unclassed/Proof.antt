@@ -1,0 +1,72 @@
+-- The invariant: 6 is given for none of the first i characters. Assumes nothing.
+use Prim.Native.Nat.{_-_, _≤_}
+use mathlib.Core.Path.{_≡_, sym, _∙_}
+use native.Mathlib.Omega.{arith}
+use lib.ListN.{length}
+use Rattle.bits.specs.First.{firstFrom, first-start, first-hit, first-miss, first-end}
+use Rattle.taken.specs.Unclassed.{unclassedAt, firstUnclassed}
+use borrow.Author.Needs.{needs}
+use Rattle.taken.proofs.first_unclassed.Statement.{statement}
+use Rattle.taken.proofs.first_unclassed.Tie as tie
+
+abbrev Inv-loop : tie.InvT-loop
+Inv-loop text classes table hints₀ i₀ hints i = (i ≤ length text) × (firstFrom (unclassedAt classes text) (length text) i ≡ firstUnclassed classes text)
+
+abbrev μ-loop : tie.MeasureT-loop
+μ-loop text classes table hints₀ i₀ hints i = length text - i
+
+table-requires : tie.Need-table-requires Inv-loop μ-loop
+table-requires c κs = tt
+
+loop-holds : tie.Need-loop-holds Inv-loop μ-loop
+unfolding firstUnclassed
+loop-holds c = (omega arith, first-start _ _)
+
+mul-is-unclassed : tie.Need-mul-is-unclassed Inv-loop μ-loop
+mul-is-unclassed c = search needs
+
+shared-slice-read-is-unclassed : tie.Need-shared-slice-read-is-unclassed Inv-loop μ-loop
+shared-slice-read-is-unclassed c = search needs
+
+is-unclassed-requires : tie.Need-is-unclassed-requires Inv-loop μ-loop
+is-unclassed-requires c κs = (c .before .before .before .before .before .before .before .before .pre, c .before .before .before .before .before .table .ensures)
+
+returns : tie.Need-returns Inv-loop μ-loop
+unfolding unclassedAt
+returns c =
+    let turn = c .before .before .before .before .before in
+    sym (first-hit _ _ _ (turn .loop-test .taken) (sym (c .before .is-unclassed .ensures) ∙ c .if1 .taken)) ∙ turn .before .loop .inv .1
+
+add-i : tie.Need-add-i Inv-loop μ-loop
+add-i c = search needs
+
+loop-less : tie.Need-loop-less Inv-loop μ-loop
+loop-less c = search needs
+
+loop-again : tie.Need-loop-again Inv-loop μ-loop
+unfolding unclassedAt
+loop-again c =
+    let turn = c .before .before .before .before .before in (
+      omega (arith, turn .loop-test .taken),
+      sym (first-miss _ _ _ (turn .loop-test .taken) (sym (c .before .is-unclassed .ensures) ∙ c .if1 .left)) ∙ turn .before .loop .inv .1,
+    )
+
+returns-2 : tie.Need-returns-2 Inv-loop μ-loop
+returns-2 c = sym (first-end _ _ _ (omega (arith, c .before .loop .inv .0, c .loop-test .left))) ∙ c .before .loop .inv .1
+
+pub first-unclassed-spec : {M : Type 1} → statement M
+first-unclassed-spec =
+    tie.close
+    (tie.spec
+    Inv-loop
+    μ-loop
+    table-requires
+    loop-holds
+    mul-is-unclassed
+    shared-slice-read-is-unclassed
+    is-unclassed-requires
+    returns
+    add-i
+    loop-less
+    loop-again
+    returns-2)

@@ -1,0 +1,10 @@
+pub mod Taken
+pub mod Unclassed
+pub mod UnclassedLaws
+pub mod Accents
+pub mod AccentsLaws
+pub mod Area
+pub mod AreaLaws
+pub mod Filling
+pub mod Clearing
+pub mod Cases
