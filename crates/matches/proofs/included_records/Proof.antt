@@ -1,0 +1,73 @@
+-- The first records with the first k numbers stand in the first places (`Filling`).
+-- Assumes nothing.
+use Prim.Native.Nat.{_-_}
+use native.Mathlib.Omega.{arith}
+use denote.Ref.{now}
+use lib.ListN.{getD}
+use Rattle.languages.specs.Languages.{firstRecord}
+use Rattle.languages.specs.LanguagesLaws.{first-record-small, good-most}
+use Rattle.matches.specs.Filling.{Filling, filling-start, filling-length, filling-room, filling-more, filling-end}
+use borrow.Author.Needs.{needs}
+use Rattle.matches.proofs.included_records.Statement.{statement}
+use Rattle.matches.proofs.included_records.Tie as tie
+
+abbrev Inv-loop : tie.InvT-loop
+Inv-loop t included out₀ n k₀ out k = Filling (firstRecord t) included out₀ out k
+
+abbrev μ-loop : tie.MeasureT-loop
+μ-loop t included out₀ n k₀ out k = n - k
+
+loop-holds : tie.Need-loop-holds Inv-loop μ-loop
+loop-holds c = filling-start _ _ _ (c .before .before .before .pre .1)
+
+mul-first-record : tie.Need-mul-first-record Inv-loop μ-loop
+mul-first-record c = search needs
+
+shared-slice-read-first-record : tie.Need-shared-slice-read-first-record Inv-loop μ-loop
+shared-slice-read-first-record c = search needs
+
+first-record-requires : tie.Need-first-record-requires Inv-loop μ-loop
+first-record-requires c κs = search needs
+
+cast-out : tie.Need-cast-out Inv-loop μ-loop
+cast-out c = omega (arith, c .first-record .ensures, first-record-small (now (c .before .before .before .before .before .before .before .args .t)) (getD (now (c .before .before .before .before .before .before .before .args .included)) (c .before .before .before .loop .k) 0), good-most (now (c .before .before .before .before .before .before .before .args .t)) (c .before .before .before .before .before .before .before .pre .0))
+
+mul-out : tie.Need-mul-out Inv-loop μ-loop
+mul-out c = search needs
+
+slice-write-out : tie.Need-slice-write-out Inv-loop μ-loop
+slice-write-out c = filling-room _ _ _ (c .before .before .before .loop .inv) (c .before .before .loop-test .taken)
+
+add-k : tie.Need-add-k Inv-loop μ-loop
+add-k c = search needs
+
+loop-less : tie.Need-loop-less Inv-loop μ-loop
+loop-less c = search needs
+
+loop-again : tie.Need-loop-again Inv-loop μ-loop
+loop-again c = filling-more _ _ _ (c .before .before .before .loop .inv) (c .before .before .loop-test .taken) _ (c .first-record .ensures)
+
+same-length : tie.Need-same-length Inv-loop μ-loop
+same-length c = filling-length _ _ _ (c .before .loop .inv)
+
+returns : tie.Need-returns Inv-loop μ-loop
+returns c = filling-end _ _ _ (c .before .loop .inv) (c .loop-test .left)
+
+pub included-records-spec : {M : Type 1} → statement M
+included-records-spec =
+    tie.close
+    (tie.spec
+    Inv-loop
+    μ-loop
+    loop-holds
+    mul-first-record
+    shared-slice-read-first-record
+    first-record-requires
+    cast-out
+    mul-out
+    slice-write-out
+    add-k
+    loop-less
+    loop-again
+    same-length
+    returns)

@@ -1,0 +1,10 @@
+pub mod Matches
+pub mod MatchesLaws
+pub mod Filling
+pub mod Lists
+pub mod Records
+pub mod Picking
+pub mod Keys
+pub mod KeysLaws
+pub mod SearchLaws
+pub mod Finding
