@@ -1,0 +1,121 @@
+// The ranking of the languages of a text (cd.rs: coherence_ratio).
+ghost use mathlib.Core.Path.{_≡_};
+ghost use lib.ListN.{length};
+ghost use Rattle.ranking.specs.Ranking.{byValue};
+ghost use Rattle.cd.specs.Causes.{causes, causesDefault};
+ghost use Rattle.cd.specs.CausesLaws.{Free};
+ghost use Rattle.cd.specs.Coherence as spec;
+use bits::Refusal;
+use bits::limits::WORK_PER_POINT;
+use causes::first_cause;
+use ranking::Ranking;
+use reading::read_layers;
+
+mod causes;
+mod reading;
+
+// f32 0.1, which 01 uses where no threshold is given.
+pub const DEFAULT_THRESHOLD: f32 = 0.1;
+
+// Whether a call is refused, and why.
+pub enum Cause {
+    Allowed,
+    Refused(Refusal),
+}
+
+// The ranking of a text that is not refused. Only here is anything written to the work area.
+fn rank_text(
+    text: &[u32],
+    threshold: f32,
+    small: u32,
+    classes: &[u8],
+    pairs: &[u8],
+    languages: &[u8],
+    included: &[u32],
+    work: &mut [u32],
+) -> Ranking
+    requires { ⌜ Free (now text) (now classes) (now pairs) (now languages) (now included) (length (now work)) ⌝ }
+    ensures { λ r. ⌜ (r ≡ byValue (spec.matchesOf (now (text .entry)) threshold small (now (classes .entry)) (now (pairs .entry)) (now (languages .entry)) (now (included .entry)))) × (now (work .exit) ≡ spec.cleared (now (text .entry)) (now (work .entry))) ⌝ }
+{
+    let n = text.len();
+    taken::fill(text, classes, work);
+    let count = layers::alpha_unicode_split(work, n, pairs);
+    let standing = read_layers(
+        work,
+        n,
+        count,
+        threshold,
+        small,
+        classes,
+        languages,
+        included,
+    );
+    taken::clear(work, WORK_PER_POINT * n);
+    ranking::ranking_of(standing, languages)
+}
+
+// The languages of a text and their scores, the best first: by value, for a caller who has room for so many matches.
+pub fn coherence_ratio(
+    text: &[u32],
+    threshold: f32,
+    small: u32,
+    classes: &[u8],
+    pairs: &[u8],
+    languages: &[u8],
+    included: &[u32],
+    work: &mut [u32],
+    room: usize,
+) -> Ranking
+    ensures { λ r. ⌜ r ≡ spec.coherenceRatio (now (text .entry)) threshold small (now (classes .entry)) (now (pairs .entry)) (now (languages .entry)) (now (included .entry)) (length (now (work .entry))) room ⌝ }
+    ensures { λ _. ⌜ now (work .exit) ≡ spec.workAfter (causes (now (text .entry)) threshold (now (classes .entry)) (now (pairs .entry)) (now (languages .entry)) (now (included .entry)) (length (now (work .entry))) room) (now (text .entry)) (now (work .entry)) ⌝ }
+{
+    match first_cause(
+        text,
+        threshold,
+        classes,
+        pairs,
+        languages,
+        included,
+        work.len(),
+        room,
+    ) {
+        Cause::Refused(r) => ranking::refused(r.number, r.place),
+        Cause::Allowed => rank_text(
+            text,
+            threshold,
+            small,
+            classes,
+            pairs,
+            languages,
+            included,
+            work,
+        ),
+    }
+}
+
+// The same at 01's default threshold.
+pub fn coherence_ratio_default(
+    text: &[u32],
+    small: u32,
+    classes: &[u8],
+    pairs: &[u8],
+    languages: &[u8],
+    included: &[u32],
+    work: &mut [u32],
+    room: usize,
+) -> Ranking
+    ensures { λ r. ⌜ r ≡ spec.coherenceRatioDefault (now (text .entry)) small (now (classes .entry)) (now (pairs .entry)) (now (languages .entry)) (now (included .entry)) (length (now (work .entry))) room ⌝ }
+    ensures { λ _. ⌜ now (work .exit) ≡ spec.workAfter (causesDefault (now (text .entry)) (now (classes .entry)) (now (pairs .entry)) (now (languages .entry)) (now (included .entry)) (length (now (work .entry))) room) (now (text .entry)) (now (work .entry)) ⌝ }
+{
+    coherence_ratio(
+        text,
+        DEFAULT_THRESHOLD,
+        small,
+        classes,
+        pairs,
+        languages,
+        included,
+        work,
+        room,
+    )
+}
