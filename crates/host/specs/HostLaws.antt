@@ -1,7 +1,9 @@
--- The flat form of each case of an answer.
+-- The flat form of each case of an answer; and the numbers that a burst holds of a line are the fields of its flat score, floats as bits
+-- (`row-fields`).
 -- Assumes nothing.
 use Prim.Native.Nat.{ℕ}
-use mathlib.Core.Path.{_≡_}
+use mathlib.Core.Path.{_≡_, refl}
+use mathlib.Core.List.{List, [], _∷_}
 use Rattle.bits.specs.Numbers.{bump}
 use Rattle.bits.specs.Refusals.{ACCEPTED}
 use Rattle.bits.specs.declared.Refusal.{Refusal}
@@ -16,6 +18,7 @@ use Rattle.md.specs.declared.Scored.{Scored}
 use Rattle.md.specs.declared.Scored.the-variants.{Score as Told, Refused as Unscored}
 use Rattle.md.specs.Values.{ZERO}
 use Rattle.md.specs.Values.{values as scoreValues}
+use Rattle.burst.specs.Burst.{bitsOf, numbers, row}
 use Rattle.chooser.specs.declared.Judged.{Judged}
 use Rattle.chooser.specs.declared.Judged.the-variants.{First, Second, FirstRefused, SecondRefused}
 use Rattle.chooser.specs.Choose.{values as verdictValues}
@@ -90,6 +93,28 @@ score-refused a r e = rw e
 pub score-told : (a : Scored) (s : Score) (k : ℕ) → a ≡ Told s → k ≡ bump (s .stopped) → toldScore s k ≡ hostScore a
 unfolding hostScore flatScore scoreValues
 score-told a s k e f = rw (e, f)
+
+-- the fields of a flat score, in their order
+abbrev pub fields : HostScore → List ℕ
+fields s =
+    s .number
+    ∷ s .place
+    ∷ bitsOf (s .symbols)
+    ∷ bitsOf (s .accents)
+    ∷ bitsOf (s .unprintable)
+    ∷ bitsOf (s .ranges)
+    ∷ bitsOf (s .doubled)
+    ∷ bitsOf (s .words)
+    ∷ bitsOf (s .stops)
+    ∷ bitsOf (s .archaic)
+    ∷ bitsOf (s .sum)
+    ∷ s .fed
+    ∷ s .stopped
+    ∷ []
+
+pub row-fields : (a : Scored) → row a ≡ fields (hostScore a)
+unfolding row numbers hostScore flatScore
+row-fields a = refl
 
 abbrev pub told : ℕ → ℕ → ℕ → ℕ → HostVerdict
 told taken refused number place = record { taken = taken; refused = refused; number = number; place = place }

@@ -1,2 +1,4 @@
 pub mod Host
 pub mod HostLaws
+pub mod Matches
+pub mod MatchesLaws

@@ -1,17 +1,24 @@
 // What a host calls: numbers and slices in, a flat struct out, by the C ABI. Each entry is one call of the library and the flat form of
-// its answer.
+// its answer; a ranking's matches are put into a lent list.
 ghost use mathlib.Core.Path.{_≡_};
 ghost use lib.ListN.{length};
 ghost use Rattle.classes.specs.Check.{checked};
 ghost use Rattle.utf8.specs.Answer.{answer, outAfter};
 ghost use Rattle.md.specs.MessRatio.{messRatio, messRatioDefault};
 ghost use Rattle.lines.specs.ScoreUtf8.{messRatioUtf8, messRatioUtf8Default};
+ghost use Rattle.burst.specs.Burst as bursts;
 ghost use Rattle.chooser.specs.Choose.{verdictOf};
+ghost use Rattle.cd.specs.Causes.{causes, causesDefault};
+ghost use Rattle.cd.specs.Coherence.{DEFAULT-THRESHOLD, coherenceRatio, coherenceRatioDefault, matchesOf, workAfter};
+ghost use Rattle.lent.specs.Lent.{answerOf};
 ghost use Rattle.host.specs.Host.{hostChecked, hostRead, hostScore, hostVerdict};
+ghost use Rattle.host.specs.Matches.{matchesAfter};
 use flat::flat_checked;
 use flat::flat_judged;
 use flat::flat_read;
 use flat::flat_scored;
+use lent::HostRanking;
+use ranking::CoherenceMatch;
 
 mod flat;
 
@@ -114,6 +121,21 @@ pub extern "C" fn drasumira_score_utf8_default(
     flat_scored(lines::mess_ratio_utf8_default(text, classes, pairs))
 }
 
+// The mess ratios of many lines, each line's thirteen numbers in its place in out: HostScore's, floats as bits. The tables are checked once.
+#[no_mangle]
+pub extern "C" fn drasumira_score_lines(
+    bytes: &[u8],
+    threshold: f32,
+    classes: &[u8],
+    pairs: &[u8],
+    out: &mut [u32],
+) -> HostRead
+    ensures { λ r. ⌜ r ≡ hostRead (bursts.answer (now (bytes .entry)) threshold (now (classes .entry)) (now (pairs .entry)) (length (now (out .entry)))) ⌝ }
+    ensures { λ _. ⌜ now (out .exit) ≡ bursts.outAfter (now (bytes .entry)) threshold (now (classes .entry)) (now (pairs .entry)) (now (out .entry)) ⌝ }
+{
+    flat_read(burst::score_lines(bytes, threshold, classes, pairs, out))
+}
+
 // Which of two texts is the more readable, or which was refused.
 #[no_mangle]
 pub extern "C" fn drasumira_verdict(
@@ -125,4 +147,65 @@ pub extern "C" fn drasumira_verdict(
     ensures { λ r. ⌜ r ≡ hostVerdict (verdictOf (now (first .entry)) (now (second .entry)) (now (classes .entry)) (now (pairs .entry))) ⌝ }
 {
     flat_judged(chooser::verdict(first, second, classes, pairs))
+}
+
+// The ranking of a text's languages, into the first entries of matches. The work area is 4 words a code point, zero after acceptance. A refusal
+// changes neither.
+#[no_mangle]
+pub extern "C" fn drasumira_coherence(
+    text: &[u32],
+    threshold: f32,
+    small: u32,
+    classes: &[u8],
+    pairs: &[u8],
+    languages: &[u8],
+    included: &[u32],
+    work: &mut [u32],
+    matches: &mut [CoherenceMatch],
+) -> HostRanking
+    ensures { λ a. ⌜ a ≡ answerOf (coherenceRatio (now (text .entry)) threshold small (now (classes .entry)) (now (pairs .entry)) (now (languages .entry)) (now (included .entry)) (length (now (work .entry))) (length (now (matches .entry)))) ⌝ }
+    ensures { λ _. ⌜ now (work .exit) ≡ workAfter (causes (now (text .entry)) threshold (now (classes .entry)) (now (pairs .entry)) (now (languages .entry)) (now (included .entry)) (length (now (work .entry))) (length (now (matches .entry)))) (now (text .entry)) (now (work .entry)) ⌝ }
+    ensures { λ _. ⌜ now (matches .exit) ≡ matchesAfter (causes (now (text .entry)) threshold (now (classes .entry)) (now (pairs .entry)) (now (languages .entry)) (now (included .entry)) (length (now (work .entry))) (length (now (matches .entry)))) (matchesOf (now (text .entry)) threshold small (now (classes .entry)) (now (pairs .entry)) (now (languages .entry)) (now (included .entry))) (now (matches .entry)) ⌝ }
+{
+    let r = cd::coherence_ratio(
+        text,
+        threshold,
+        small,
+        classes,
+        pairs,
+        languages,
+        included,
+        work,
+        matches.len(),
+    );
+    lent::put(matches, r)
+}
+
+// The same at the default threshold.
+#[no_mangle]
+pub extern "C" fn drasumira_coherence_default(
+    text: &[u32],
+    small: u32,
+    classes: &[u8],
+    pairs: &[u8],
+    languages: &[u8],
+    included: &[u32],
+    work: &mut [u32],
+    matches: &mut [CoherenceMatch],
+) -> HostRanking
+    ensures { λ a. ⌜ a ≡ answerOf (coherenceRatioDefault (now (text .entry)) small (now (classes .entry)) (now (pairs .entry)) (now (languages .entry)) (now (included .entry)) (length (now (work .entry))) (length (now (matches .entry)))) ⌝ }
+    ensures { λ _. ⌜ now (work .exit) ≡ workAfter (causesDefault (now (text .entry)) (now (classes .entry)) (now (pairs .entry)) (now (languages .entry)) (now (included .entry)) (length (now (work .entry))) (length (now (matches .entry)))) (now (text .entry)) (now (work .entry)) ⌝ }
+    ensures { λ _. ⌜ now (matches .exit) ≡ matchesAfter (causesDefault (now (text .entry)) (now (classes .entry)) (now (pairs .entry)) (now (languages .entry)) (now (included .entry)) (length (now (work .entry))) (length (now (matches .entry)))) (matchesOf (now (text .entry)) DEFAULT-THRESHOLD small (now (classes .entry)) (now (pairs .entry)) (now (languages .entry)) (now (included .entry))) (now (matches .entry)) ⌝ }
+{
+    drasumira_coherence(
+        text,
+        cd::DEFAULT_THRESHOLD,
+        small,
+        classes,
+        pairs,
+        languages,
+        included,
+        work,
+        matches,
+    )
 }

@@ -1,3 +1,5 @@
+pub mod Lent
+pub mod LentLaws
 pub mod Rooms
 pub mod ScoreUtf8
 pub mod ScoreUtf8Laws

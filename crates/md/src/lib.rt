@@ -16,7 +16,7 @@ use ratio::Ratios;
 use ratio::finite::is_finite;
 use scan::scan_text;
 
-mod scan;
+pub mod scan;
 mod text;
 
 // f32 0.2, which 01 uses where no threshold is given.

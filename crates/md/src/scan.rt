@@ -110,24 +110,38 @@ fn stopped_after(s: Detectors, text: &[u32], i: usize, table: &[u64; 592], class
     scored(s, (i + 1) as u32, true)
 }
 
-// The scan goes on only where the lookup found a class.
-pub fn scan_text(text: &[u32], limit: Limit, classes: &[u8], pairs: &[u8]) -> Scored
-    requires { ⌜ scans.Ready (now classes) (now pairs) (now text) ⌝ }
+// The scan goes on only where the lookup found a class. The built-in table is lent, so that a caller with many texts makes it once.
+pub fn scan_text_in(
+    text: &[u32],
+    limit: Limit,
+    table: &[u64; 592],
+    classes: &[u8],
+    pairs: &[u8],
+) -> Scored
+    requires { ⌜ scans.Ready (now classes) (now pairs) (now text) × (now table ≡ packedWords) ⌝ }
     ensures { λ r. ⌜ r ≡ scans.scan (now (classes .entry)) (now (pairs .entry)) (now (text .entry)) limit ⌝ }
 {
     let n = text.len() + 1;
-    let table = builtin::table();
     let mut s = Detectors::start();
     let mut i = 0;
     while i < n {
-        let Found::At(c) = class_at(text, i, &table, classes) else {
+        let Found::At(c) = class_at(text, i, table, classes) else {
             return refuse(UNCLASSED, i as u32);
         };
         s = fed(s, c, pairs);
         if is_over(s, text.len(), i, limit) {
-            return stopped_after(s, text, i, &table, classes);
+            return stopped_after(s, text, i, table, classes);
         }
         i += 1;
     }
     scored(s, n as u32, false)
+}
+
+// The same for one text.
+pub fn scan_text(text: &[u32], limit: Limit, classes: &[u8], pairs: &[u8]) -> Scored
+    requires { ⌜ scans.Ready (now classes) (now pairs) (now text) ⌝ }
+    ensures { λ r. ⌜ r ≡ scans.scan (now (classes .entry)) (now (pairs .entry)) (now (text .entry)) limit ⌝ }
+{
+    let table = builtin::table();
+    scan_text_in(text, limit, &table, classes, pairs)
 }

@@ -10,17 +10,14 @@ use lib.ListN.{length}
 use borrow.Author.Tests.{lt-ltb, le-ltb}
 use Rattle.bits.specs.Refusals.{TOO-LONG}
 use Rattle.bits.specs.declared.Refusal.{Refusal}
-use Rattle.utf8.specs.declared.Read.{Read}
-use Rattle.utf8.specs.declared.Read.the-variants.{Count, Refused as Unread}
-use Rattle.utf8.specs.Text.{textOf}
-use Rattle.utf8.specs.Answer.{counted}
 use Rattle.md.specs.declared.Score.{Score}
 use Rattle.md.specs.declared.Scored.{Scored}
 use Rattle.md.specs.declared.Scored.the-variants.{Refused}
 use Rattle.md.specs.declared.Scored.the-variants.{Score as Told}
 use Rattle.md.specs.Scan.{refused}
-use Rattle.md.specs.Plain.{PlainScore, ratio-plain}
-use Rattle.lines.specs.ScoreUtf8.{messRatioUtf8, unlessUnread}
+use Rattle.md.specs.Plain.{PlainScore}
+use Rattle.lines.specs.ScoreUtf8.{messRatioUtf8}
+use Rattle.lines.specs.ScoreUtf8Laws.{utf8-plain}
 use Rattle.report.specs.Program.{LONGEST-INPUT, THRESHOLD, NO-CLASSES, NO-PAIRS, answer}
 
 module _ (bytes : List ℕ) where
@@ -32,16 +29,11 @@ module _ (bytes : List ℕ) where
   unfolding answer
   within h = rw (le-ltb LONGEST-INPUT (length bytes) h)
 
-read-score : (r : Read) (x : Scored) (s : Score) → unlessUnread r x ≡ Told s → x ≡ Told s
-read-score (Count n) x s e = e
-read-score (Unread r) x s e = let z : _≡_ {A = ℕ} 0 1 = cc in absurd (omega arith)
-
 kept-score : (b : Bool) (r : Refusal) (x : Scored) (s : Score) → cond b (Refused r) x ≡ Told s → x ≡ Told s
 kept-score true r x s e = let z : _≡_ {A = ℕ} 0 1 = cc in absurd (omega arith)
 kept-score false r x s e = e
 
 pub answer-plain : (bytes : List ℕ) (s : Score) → Told s ≡ answer bytes → PlainScore s
-unfolding answer messRatioUtf8
+unfolding answer
 answer-plain bytes s e =
-    ratio-plain (textOf bytes) THRESHOLD NO-CLASSES NO-PAIRS s
-    (read-score (counted bytes) _ s (kept-score (ltb LONGEST-INPUT (length bytes)) _ _ s (sym e)))
+    utf8-plain bytes THRESHOLD NO-CLASSES NO-PAIRS s (kept-score (ltb LONGEST-INPUT (length bytes)) _ _ s (sym e))

@@ -1,7 +1,8 @@
--- Bytes that were counted are readable, and each room is as long as its texts may be. Assumes nothing.
+-- Bytes that were counted are readable, and what passed the check is ready for the scan. Assumes nothing.
 use native.Mathlib.Omega.{arith}
 use mathlib.Core.Path.{sym, _∙_}
 use Rattle.utf8.specs.AnswerLaws.{readable}
+use Rattle.lines.specs.LentLaws.{lendable, lent-refused}
 use Rattle.lines.specs.ScoreUtf8Laws.{unread, read}
 use borrow.Author.Needs.{needs}
 use Rattle.lines.proofs.mess_ratio_utf8.Statement.{statement}
@@ -16,43 +17,48 @@ enum-known-why c = search needs
 enum-known-count : tie.Need-enum-known-count
 enum-known-count c = search needs
 
-cast-n : tie.Need-cast-n
-cast-n c = search needs
+check-lent-requires : tie.Need-check-lent-requires
+check-lent-requires c κs = search needs
 
-through-short-requires : tie.Need-through-short-requires
-through-short-requires c κs =
-    let met = c .before .before in
-    (readable _ _ (sym (met .count .given .1) ∙ met .before .before .count-utf8 .ensures), c .if1 .taken)
+enum-known-fault : tie.Need-enum-known-fault
+enum-known-fault c = search needs
+
+enum-told : tie.Need-enum-told
+enum-told c = search needs
+
+table-requires : tie.Need-table-requires
+table-requires c κs = search needs
+
+cast-score-read : tie.Need-cast-score-read
+cast-score-read c = search needs
+
+score-read-requires : tie.Need-score-read-requires
+score-read-requires c κs =
+    let lent = c .before .before in
+    let met = lent .before .before .before .before in (
+      readable _ _ (sym (met .count .given .1) ∙ met .before .before .count-utf8 .ensures),
+      lendable _ _ _ _ (sym (lent .before .before .check-lent .ensures) ∙ lent .enum-told .given .1),
+      c .before .table .ensures,
+    )
 
 returns : tie.Need-returns
 returns c =
-    let met = c .before .before .before in
-    c .through-short .ensures ∙ read _ _ _ _ _ (sym (met .count .given .1) ∙ met .before .before .count-utf8 .ensures)
-
-through-middle-requires : tie.Need-through-middle-requires
-through-middle-requires c κs =
-    let met = c .before .before .before in
-    (readable _ _ (sym (met .count .given .1) ∙ met .before .before .count-utf8 .ensures), c .if2 .taken)
-
-returns-2 : tie.Need-returns-2
-returns-2 c =
-    let met = c .before .before .before .before in
-    c .through-middle .ensures ∙ read _ _ _ _ _ (sym (met .count .given .1) ∙ met .before .before .count-utf8 .ensures)
-
-through-long-requires : tie.Need-through-long-requires
-through-long-requires c κs =
-    let met = c .before .before .before in
-    readable _ _ (sym (met .count .given .1) ∙ met .before .before .count-utf8 .ensures)
-
-returns-3 : tie.Need-returns-3
-returns-3 c =
     let met = c .before in
     unread _ _ _ _ _ (sym (met .why .given .1) ∙ met .before .before .count-utf8 .ensures)
 
-returns-4 : tie.Need-returns-4
-returns-4 c =
-    let met = c .before .before .before .before in
-    c .through-long .ensures ∙ read _ _ _ _ _ (sym (met .count .given .1) ∙ met .before .before .count-utf8 .ensures)
+returns-2 : tie.Need-returns-2
+returns-2 c =
+    let lent = c .before in
+    let met = lent .before .before .before .before in
+    let counted = sym (met .count .given .1) ∙ met .before .before .count-utf8 .ensures in
+    let can = readable _ _ counted in
+    lent-refused _ _ _ _ (omega (arith, can .few, can .count)) _ (sym (lent .before .before .check-lent .ensures) ∙ lent .fault .given .1)
+    ∙ read _ _ _ _ _ counted
+
+returns-3 : tie.Need-returns-3
+returns-3 c =
+    let met = c .before .before .before .before .before .before .before in
+    c .score-read .ensures ∙ read _ _ _ _ _ (sym (met .count .given .1) ∙ met .before .before .count-utf8 .ensures)
 
 pub mess-ratio-utf8-spec : {M : Type 1} → statement M
 mess-ratio-utf8-spec =
@@ -61,11 +67,12 @@ mess-ratio-utf8-spec =
     count-utf8-requires
     enum-known-why
     enum-known-count
-    cast-n
-    through-short-requires
+    check-lent-requires
+    enum-known-fault
+    enum-told
+    table-requires
+    cast-score-read
+    score-read-requires
     returns
-    through-middle-requires
     returns-2
-    through-long-requires
-    returns-3
-    returns-4)
+    returns-3)

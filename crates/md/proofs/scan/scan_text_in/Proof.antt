@@ -5,20 +5,17 @@ use mathlib.Core.Path.{sym, _∙_}
 use native.Mathlib.Omega.{arith}
 use Rattle.md.specs.Going.{Going, going-start, going-room, going-countable, going-range, going-missing, fed-countable, going-on, going-stopped, going-ended}
 use Rattle.md.specs.ScanLaws.{class-range}
-use Rattle.md.proofs.scan.scan_text.Statement.{statement}
-use Rattle.md.proofs.scan.scan_text.Tie as tie
+use Rattle.md.proofs.scan.scan_text_in.Statement.{statement}
+use Rattle.md.proofs.scan.scan_text_in.Tie as tie
 
 abbrev Inv-loop : tie.InvT-loop
-Inv-loop text limit classes pairs n table s₀ i₀ s i = Going classes pairs text limit n s i
+Inv-loop text limit table classes pairs n s₀ i₀ s i = Going classes pairs text limit n s i
 
 abbrev μ-loop : tie.MeasureT-loop
-μ-loop text limit classes pairs n table s₀ i₀ s i = n - i
+μ-loop text limit table classes pairs n s₀ i₀ s i = n - i
 
 add-n : tie.Need-add-n Inv-loop μ-loop
 add-n c = omega arith
-
-table-requires : tie.Need-table-requires Inv-loop μ-loop
-table-requires c κs = tt
 
 start-requires : tie.Need-start-requires Inv-loop μ-loop
 start-requires c κs = tt
@@ -28,8 +25,8 @@ loop-holds c = going-start _ _ _ _ _ (c .start .ensures)
 
 class-at-requires : tie.Need-class-at-requires Inv-loop μ-loop
 class-at-requires c κs =
-    let turn = c .before in
-    (turn .before .before .before .before .before .before .before .pre .good, turn .before .before .before .table .ensures)
+    let entry = c .before .before .before .before .before .before in
+    (entry .pre .0 .good, entry .pre .1)
 
 enum-known-c : tie.Need-enum-known-c Inv-loop μ-loop
 enum-known-c c = c .match .keys1
@@ -45,65 +42,65 @@ refuse-requires c κs = tt
 
 returns : tie.Need-returns Inv-loop μ-loop
 returns c =
-    let turn = c .before .before .before .before .before in
+    let turn = c .before .before .before .before in
     c .refuse .ensures
     ∙ going-missing _ _ _ _ (turn .before .loop .inv) (turn .loop-test .taken)
     (sym (c .before .before .before .class-at .ensures) ∙ c .before .enum-told .given .1)
 
 fed-requires : tie.Need-fed-requires Inv-loop μ-loop
 fed-requires c κs =
-    let turn = c .before .before .before .before .before in
-    let entry = turn .before .before .before .before .before .before .before in
+    let turn = c .before .before .before .before in
+    let entry = turn .before .before .before .before .before .before in
     let going = turn .before .loop .inv in (
       going-room _ _ _ _ going (omega arith),
-      entry .pre .fits,
-      going-range _ _ _ _ going (entry .pre .good),
-      class-range _ _ (entry .pre .good) _ _ (sym (c .before .before .before .class-at .ensures) ∙ c .before .c .given .1),
+      entry .pre .0 .fits,
+      going-range _ _ _ _ going (entry .pre .0 .good),
+      class-range _ _ (entry .pre .0 .good) _ _ (sym (c .before .before .before .class-at .ensures) ∙ c .before .c .given .1),
     )
 
 is-over-requires : tie.Need-is-over-requires Inv-loop μ-loop
 is-over-requires c κs =
     let fed = c in
-    let turn = fed .before .before .before .before .before .before in
-    let entry = turn .before .before .before .before .before .before .before in
+    let turn = fed .before .before .before .before .before in
+    let entry = turn .before .before .before .before .before .before in
     fed-countable _ _ _ _ (turn .before .loop .inv) _ _ (turn .loop-test .taken)
     (sym (fed .before .before .before .before .class-at .ensures) ∙ fed .before .before .c .given .1)
     (fed .fed .ensures)
-    (omega (arith, entry .pre .short))
+    (omega (arith, entry .pre .0 .short))
 
 stopped-after-requires : tie.Need-stopped-after-requires Inv-loop μ-loop
 stopped-after-requires c κs =
-    let fed = c .before .before .before in
-    let turn = fed .before .before .before .before .before .before in
-    let entry = turn .before .before .before .before .before .before .before in (
-      entry .pre .good,
-      entry .pre .short,
+    let fed = c .before .before in
+    let turn = fed .before .before .before .before .before in
+    let entry = turn .before .before .before .before .before .before in (
+      entry .pre .0 .good,
+      entry .pre .0 .short,
       turn .loop-test .taken,
       fed-countable _ _ _ _ (turn .before .loop .inv) _ _ (turn .loop-test .taken)
           (sym (fed .before .before .before .before .class-at .ensures) ∙ fed .before .before .c .given .1)
           (fed .fed .ensures)
-          (omega (arith, entry .pre .short)),
-      turn .before .before .before .table .ensures,
+          (omega (arith, entry .pre .0 .short)),
+      entry .pre .1,
     )
 
 returns-2 : tie.Need-returns-2 Inv-loop μ-loop
 returns-2 c =
-    let fed = c .before .before .before .before in
-    let turn = fed .before .before .before .before .before .before in
+    let fed = c .before .before .before in
+    let turn = fed .before .before .before .before .before in
     c .stopped-after .ensures
     ∙ going-stopped _ _ _ _ (turn .before .loop .inv) _ _ (turn .loop-test .taken)
     (sym (fed .before .before .before .before .class-at .ensures) ∙ fed .before .before .c .given .1)
     (fed .fed .ensures)
     _
-    (c .before .before .before .is-over .ensures)
-    (c .before .before .if1 .taken)
+    (c .before .before .is-over .ensures)
+    (c .before .if1 .taken)
 
 add-i : tie.Need-add-i Inv-loop μ-loop
 add-i c =
     let fed = c .before .before in
-    let turn = fed .before .before .before .before .before .before in
-    let entry = turn .before .before .before .before .before .before .before in
-    omega (arith, turn .loop-test .taken, entry .pre .short)
+    let turn = fed .before .before .before .before .before in
+    let entry = turn .before .before .before .before .before .before in
+    omega (arith, turn .loop-test .taken, entry .pre .0 .short)
 
 loop-less : tie.Need-loop-less Inv-loop μ-loop
 loop-less c = omega arith
@@ -111,7 +108,7 @@ loop-less c = omega arith
 loop-again : tie.Need-loop-again Inv-loop μ-loop
 loop-again c =
     let fed = c .before .before in
-    let turn = fed .before .before .before .before .before .before in
+    let turn = fed .before .before .before .before .before in
     going-on _ _ _ _ (turn .before .loop .inv) _ _ (turn .loop-test .taken)
     (sym (fed .before .before .before .before .class-at .ensures) ∙ fed .before .before .c .given .1)
     (fed .fed .ensures)
@@ -128,14 +125,13 @@ scored-requires c κs = going-countable _ _ _ _ (c .before .loop .inv) (omega ar
 returns-3 : tie.Need-returns-3 Inv-loop μ-loop
 returns-3 c = c .scored .ensures ∙ going-ended _ _ _ _ (c .before .before .loop .inv) (c .before .loop-test .left)
 
-pub scan-text-spec : {M : Type 1} → statement M
-scan-text-spec =
+pub scan-text-in-spec : {M : Type 1} → statement M
+scan-text-in-spec =
     tie.close
     (tie.spec
     Inv-loop
     μ-loop
     add-n
-    table-requires
     start-requires
     loop-holds
     class-at-requires
