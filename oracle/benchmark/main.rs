@@ -3,9 +3,11 @@
 // the machine does shows least. The threshold is the largest f32, so that every text is scanned to its end. The library's texts are lent
 // as u32; `bytes` is UTF-8 read and scored in one call, whose room for the code points is cleared in each call (1 KiB up to 256 of them,
 // 16 KiB up to 4,096, else 256 KiB).
+mod coherence;
 #[path = "../differential/library.rs"]
 #[allow(dead_code)]
 mod library;
+mod lines;
 
 use library::Lent;
 use oracle::open::Opened;
@@ -67,13 +69,14 @@ fn nanoseconds(mut call: impl FnMut()) -> f64 {
 struct Subject {
     text: String,
     points: Vec<u32>,
+    burst: lines::Burst,
 }
 
 impl Subject {
     fn new(name: &str, n: usize) -> Subject {
         let sample = SAMPLES.iter().find(|s| s.0 == name).expect("a text's name").1;
         let text = if sample.is_empty() { noise(n) } else { repeated(sample, n) };
-        Subject { points: text.chars().map(|c| c as u32).collect(), text }
+        Subject { points: text.chars().map(|c| c as u32).collect(), burst: lines::Burst::new(&text), text }
     }
 
     fn call(&self, side: &str, lent: &Lent) {
@@ -84,6 +87,8 @@ impl Subject {
             }
             "library" => drop(black_box(library::score(black_box(&self.points), Some(NEVER), lent))),
             "bytes" => drop(black_box(library::score_utf8(black_box(self.text.as_bytes()), Some(NEVER), lent))),
+            "oracle-lines" => self.burst.oracle(),
+            "lines" => self.burst.library(lent),
             _ => drop(black_box(library::check_classes(black_box(lent.classes.list())))),
         }
     }
@@ -95,7 +100,8 @@ impl Subject {
 }
 
 fn table(all: &Lent, none: &Lent) {
-    let check = nanoseconds(|| Subject { text: String::new(), points: vec![] }.call("check", all));
+    let nothing = Subject::new("ASCII", 0);
+    let check = nanoseconds(|| nothing.call("check", all));
     let records = all.classes.list().len() / 24;
     println!("check of {records} records: {check:.0} ns, {:.2} ns a record\n", check / records as f64);
     println!("| text | characters | records | oracle ns/char | library ns/char | times as fast | bytes ns/char |");
@@ -111,22 +117,32 @@ fn table(all: &Lent, none: &Lent) {
             }
         }
     }
+    lines::table(all, none);
 }
 
 fn main() {
     let words: Vec<String> = std::env::args().skip(1).collect();
     let words: Vec<&str> = words.iter().map(String::as_str).collect();
-    let dir = words.first().expect("usage: benchmark TABLES [SIDE NAME LENGTH all|none CALLS]");
+    let dir = words.first().expect("usage: benchmark TABLES [coherence [SIDE NAME LENGTH CALLS] | SIDE NAME LENGTH all|none CALLS]");
     let file = |name: &str| std::fs::read(format!("{dir}/{name}.bin")).expect(name);
     let (classes, pairs) = (file("classes"), file("pairs"));
     let (all, none) = (Lent::new(&classes, &pairs), Lent::new(&[], &pairs));
+    let rankings = coherence::Tables { classes: classes.clone(), pairs: pairs.clone(), languages: file("languages") };
     match words[1..] {
+        ["coherence"] => coherence::table(&rankings),
+        ["coherence", side, name, n, calls] => {
+            coherence::calls(&rankings, side, name, n.parse().expect("a length"), calls.parse().expect("a number of calls"))
+        }
         // for callgrind: just so many calls
         [side, name, n, records, calls] => {
             let subject = Subject::new(name, n.parse().expect("a length"));
             let lent = if records == "all" { &all } else { &none };
             (0..calls.parse().expect("a number of calls")).for_each(|_: usize| subject.call(side, lent));
         }
-        _ => table(&all, &none),
+        _ => {
+            table(&all, &none);
+            println!();
+            coherence::table(&rankings)
+        }
     }
 }

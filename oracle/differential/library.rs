@@ -96,6 +96,17 @@ unsafe extern "C" {
         pairs: *const u8,
         pairs_n: usize,
     ) -> *mut HostScore;
+    fn drasumira_score_lines(
+        bytes: *const u8,
+        n: usize,
+        threshold: f32,
+        classes: *const u8,
+        classes_n: usize,
+        pairs: *const u8,
+        pairs_n: usize,
+        out: *mut u32,
+        room: usize,
+    ) -> HostRead;
     fn drasumira_verdict(
         first: *const u32,
         first_n: usize,
@@ -128,7 +139,7 @@ impl<T: Copy + PartialEq> Guarded<T> {
         &self.all[MARGIN..self.all.len() - MARGIN]
     }
 
-    fn list_mut(&mut self) -> &mut [T] {
+    pub fn list_mut(&mut self) -> &mut [T] {
         let end = self.all.len() - MARGIN;
         &mut self.all[MARGIN..end]
     }
@@ -205,6 +216,13 @@ pub fn score_utf8(bytes: &[u8], threshold: Option<f32>, lent: &Lent) -> HostScor
     };
     assert_eq!(back, at, "the pointer that a large struct comes back through is returned");
     told
+}
+
+// Many lines in one call.
+pub fn score_lines(bytes: &[u8], threshold: f32, lent: &Lent, out: &mut [u32]) -> HostRead {
+    let (c, p) = (lent.classes.list(), lent.pairs.list());
+    let (o, room) = (out.as_mut_ptr(), out.len());
+    unsafe { drasumira_score_lines(bytes.as_ptr(), bytes.len(), threshold, c.as_ptr(), c.len(), p.as_ptr(), p.len(), o, room) }
 }
 
 pub fn verdict(first: &[u32], second: &[u32], lent: &Lent) -> HostVerdict {

@@ -3,7 +3,9 @@
 // comes from causes.rs, since the oracle refuses nothing. The first difference is printed as the smallest text found, with both answers,
 // and ends the run with status 1.
 mod causes;
+mod coherence;
 mod library;
+mod lines;
 mod random;
 mod tables;
 mod texts;
@@ -33,6 +35,7 @@ struct Run {
     cases: u64,
     refused: u64,
     stopped: u64,
+    coherence: coherence::Tally,
     random: Random,
     phase: &'static str,
     began: (Instant, u64),
@@ -104,6 +107,18 @@ impl Run {
     fn fail(&self, what: &str) -> ! {
         println!("DIFFERENCE in {}, case {}, seed {}: {what}", self.phase, self.cases, self.seed);
         std::process::exit(1)
+    }
+
+    fn ended(&self, started: Instant) {
+        println!(
+            "{} cases, 0 differences ({} refused as 01 says, {} stopped early; {}; seed {}, {:.0} s)",
+            self.cases,
+            self.refused,
+            self.stopped,
+            self.coherence,
+            self.seed,
+            started.elapsed().as_secs_f32()
+        );
     }
 
     // One text that all accept, scored by both.
@@ -453,16 +468,18 @@ impl Run {
 
 fn main() {
     let words: Vec<String> = std::env::args().skip(1).collect();
-    let (full, seed, dir) = match words.iter().map(String::as_str).collect::<Vec<_>>()[..] {
-        [how @ ("quick" | "full"), dir] => (how == "full", SEED, dir),
-        [how @ ("quick" | "full"), dir, seed] => (how == "full", seed.parse().expect("a seed is a whole number"), dir),
+    let number = |seed: &str| seed.parse().expect("a seed is a whole number");
+    let (full, seed, dir, rankings_only) = match words.iter().map(String::as_str).collect::<Vec<_>>()[..] {
+        [how @ ("quick" | "full"), dir] => (how == "full", SEED, dir, false),
+        [how @ ("quick" | "full"), dir, seed] => (how == "full", number(seed), dir, false),
+        [how @ ("quick" | "full"), dir, seed, "coherence"] => (how == "full", number(seed), dir, true),
         _ => {
-            eprintln!("usage: differential quick|full TABLES [SEED]");
+            eprintln!("usage: differential quick|full TABLES [SEED [coherence]]");
             std::process::exit(2)
         }
     };
     let table = |name: &str| std::fs::read(format!("{dir}/{name}.bin")).unwrap_or_else(|e| panic!("{dir}/{name}.bin: {e}"));
-    let (classes, pairs) = (table("classes"), table("pairs"));
+    let (classes, pairs, languages) = (table("classes"), table("pairs"), table("languages"));
     let records = tables::records(&classes);
     let alphabet = Alphabet::new(&records);
     let kept: Vec<Record> =
@@ -470,8 +487,14 @@ fn main() {
     let (real, small) = (Lent::new(&classes, &pairs), Lent::new(&tables::bytes(&kept), &pairs));
     eprintln!("seed {seed}, {} flag words, {} records, {} kept for short texts", alphabet.representatives.len(), records.len(), kept.len());
     let began = (Instant::now(), 0);
-    let mut run = Run { seed, full, cases: 0, refused: 0, stopped: 0, random: Random::new(seed), phase: "", began };
+    let coherence = coherence::Tally::default();
+    let mut run = Run { seed, full, cases: 0, refused: 0, stopped: 0, coherence, random: Random::new(seed), phase: "", began };
     let started = Instant::now();
+    if rankings_only {
+        run.coherence(&classes, &pairs, &languages);
+        run.phase("");
+        return run.ended(started);
+    }
 
     run.phase("short texts, all tables");
     run.short_texts(&alphabet.representatives, run.times(2, 3) as u32, &real);
@@ -493,17 +516,17 @@ fn main() {
     run.reading(&alphabet, run.times(40_000, 1_000_000));
     run.phase("bytes scored in one call");
     run.bytes_scored(&alphabet, run.times(2_000, 30_000), &classes, &pairs);
+    run.phase("many lines in one call");
+    run.bursts(&alphabet, run.times(1_000, 20_000), &classes, &pairs);
+    run.causes_of_bursts(run.times(2, 20), &classes, &pairs);
+    run.phase("the Rust package's lines and choices");
+    run.package(&alphabet, run.times(500, 10_000), &classes, &pairs);
     run.phase("verdicts");
     run.verdicts(&alphabet, run.times(1_000, 10_000), &classes, &pairs);
+    run.coherence(&classes, &pairs, &languages);
     run.phase("");
     if !real.whole() || !small.whole() {
         run.fail("a lent table was changed");
     }
-    println!(
-        "{} cases, 0 differences ({} refused as 01 says, {} stopped early; seed {seed}, {:.0} s)",
-        run.cases,
-        run.refused,
-        run.stopped,
-        started.elapsed().as_secs_f32()
-    );
+    run.ended(started);
 }

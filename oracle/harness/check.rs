@@ -144,16 +144,9 @@ fn lowered_out() {
 }
 
 fn languages() {
-    let mut numbers: Vec<u32> = LANGUAGES.iter().map(|r| number(&r.0)).collect();
-    let records = numbers.len();
-    let mut seen = BTreeSet::new();
-    numbers.retain(|n| seen.insert(*n));
+    let numbers: BTreeSet<u32> = LANGUAGES.iter().map(|r| number(&r.0)).collect();
     let most = LANGUAGES.iter().map(|r| r.1.chars().count()).max().unwrap_or(0);
-    println!(
-        "seen: {records} language records, {} languages, at most {most} letters; numbers rise in the order of first records: {}",
-        numbers.len(),
-        numbers.is_sorted()
-    );
+    println!("seen: {} language records, {} languages, at most {most} letters", LANGUAGES.len(), numbers.len());
     for (language, letters, _, _) in LANGUAGES.iter() {
         let letters: Vec<char> = letters.chars().collect();
         let distinct: BTreeSet<char> = letters.iter().copied().collect();

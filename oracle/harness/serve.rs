@@ -11,7 +11,7 @@
 // These lend a table, so that it stands for the crate's own data until `reset`, and are not answered:
 //   set CP FLAGS RANGE BASE LOWER | classes FILE | pairs FILE | languages FILE | small N | reset
 use crate::tables::point;
-use oracle::entity::{CoherenceMatch, CoherenceMatches};
+use oracle::entity::{CoherenceMatch, CoherenceMatches, Language};
 use oracle::open::*;
 use ordered_float::OrderedFloat;
 use std::io::{BufRead, Write};
@@ -99,7 +99,7 @@ fn class_record(r: &[u8]) -> (u32, u32, Class) {
 fn language_record(r: &[u8]) -> LanguageRow {
     let (count, marks) = (word_at(r, 4) & 0xFFFF, word_at(r, 4) >> 16);
     let letters: String = (0..count as usize).map(|i| point(word_at(r, 8 + 4 * i))).collect();
-    (*language(word_at(r, 0)).expect("a language"), letters.leak(), marks & 1 != 0, marks & 2 != 0)
+    (Language::Lent(word_at(r, 0)), letters.leak(), marks & 1 != 0, marks & 2 != 0)
 }
 
 fn lend(change: impl FnOnce(&mut Lent)) -> Option<String> {

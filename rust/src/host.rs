@@ -1,5 +1,6 @@
-// The library's entries by the C ABI. All that is `unsafe` in this package stands here: each slice crosses as pointer and length, and a
-// struct of more than 16 bytes comes back through the first pointer, which is also returned.
+// The library's entries by the C ABI. All that is `unsafe` in this package stands here and in host/coherence.rs: each slice crosses as
+// pointer and length, and a struct of more than 16 bytes comes back through the first pointer, which is also returned.
+pub mod coherence;
 
 #[repr(C)]
 #[derive(Clone, Copy, Default)]
@@ -51,6 +52,8 @@ unsafe extern "C" {
         classes: *const u8, classes_n: usize, pairs: *const u8, pairs_n: usize) -> *mut HostScore;
     fn drasumira_score_utf8_default(told: *mut HostScore, text: *const u8, n: usize,
         classes: *const u8, classes_n: usize, pairs: *const u8, pairs_n: usize) -> *mut HostScore;
+    fn drasumira_score_lines(bytes: *const u8, n: usize, threshold: f32,
+        classes: *const u8, classes_n: usize, pairs: *const u8, pairs_n: usize, out: *mut u32, room: usize) -> HostRead;
     fn drasumira_verdict(first: *const u32, first_n: usize, second: *const u32, second_n: usize,
         classes: *const u8, classes_n: usize, pairs: *const u8, pairs_n: usize) -> HostVerdict;
 }
@@ -88,6 +91,11 @@ pub fn score_utf8(text: &[u8], threshold: Option<f32>, classes: &[u8], pairs: &[
         }
     };
     told
+}
+
+pub fn score_lines(bytes: &[u8], threshold: f32, classes: &[u8], pairs: &[u8], out: &mut [u32]) -> HostRead {
+    let (b, n, o, room) = (bytes.as_ptr(), bytes.len(), out.as_mut_ptr(), out.len());
+    unsafe { drasumira_score_lines(b, n, threshold, classes.as_ptr(), classes.len(), pairs.as_ptr(), pairs.len(), o, room) }
 }
 
 pub fn verdict(first: &[char], second: &[char], classes: &[u8], pairs: &[u8]) -> HostVerdict {

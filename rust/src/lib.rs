@@ -1,4 +1,5 @@
-//! How much of a text is noise: the mess ratio of charset-normalizer-rs, by a proved library.
+//! How much of a text is noise, and which languages it may be in: the mess ratio and the coherence ratio of charset-normalizer-rs, by a
+//! proved library.
 //!
 //! Every call answers what a written definition says for every input, refusals included; the proofs are checked when the library is built.
 //! This package is the thin part that is not proved: it hands slices to the library and names what comes back.
@@ -13,10 +14,21 @@
 //! # Ok::<(), drasumira::Refusal>(())
 //! ```
 //!
-//! Each scoring call checks the class table whole, which for a line of 80 characters costs more than the scan itself.
+//! Each call of [`score`] checks the class table whole, which for one line of 80 characters costs more than the scan itself. For many lines
+//! [`score_lines`] checks it once:
+//!
+//! ```
+//! use drasumira::{Tables, score_lines};
+//! let told = score_lines("A line of plain text.\n\u{1}\u{2}\u{3}\n", None, &Tables::full())?;
+//! let sums: Vec<f32> = told.into_iter().map(|line| line.map(|score| score.sum)).collect::<Result<_, _>>()?;
+//! assert!(sums.len() == 2 && sums[0] < sums[1]);
+//! # Ok::<(), drasumira::Refusal>(())
+//! ```
+mod coherence;
 mod host;
 mod refusal;
 
+pub use coherence::{CoherenceMatch, Languages, TOO_SMALL_SEQUENCE, coherence, language_name};
 pub use refusal::Refusal;
 
 /// A class table and a pair table. The class table is checked when this is made.
@@ -97,6 +109,15 @@ pub struct Score {
     pub stopped: bool,
 }
 
+/// Used where no threshold is given.
+pub const DEFAULT_THRESHOLD: f32 = 0.2;
+
+/// Bytes that [`score_lines`] takes in one call.
+pub const LONGEST_BURST: usize = 16_777_216;
+
+// The numbers that the library puts into its output for each line.
+const NUMBERS_PER_LINE: usize = 13;
+
 fn unless_refused<T>(number: u32, place: u32, told: T) -> Result<T, Refusal> {
     if number == 0 { Ok(told) } else { Err(Refusal { number, place }) }
 }
@@ -105,7 +126,8 @@ fn accepted(told: host::HostRead) -> Result<usize, Refusal> {
     unless_refused(told.number, told.place, told.count as usize)
 }
 
-/// The mess ratio of a text. Without a threshold 0.2 is used.
+/// The mess ratio of a text. Without a threshold [`DEFAULT_THRESHOLD`] is used. The tables are checked in each call: for many lines use
+/// [`score_lines`].
 ///
 /// ```
 /// use drasumira::{Tables, score};
@@ -113,7 +135,7 @@ fn accepted(told: host::HostRead) -> Result<usize, Refusal> {
 /// let told = score("\u{1}", None, &tables)?;
 /// assert_eq!((told.sum, told.fed, told.stopped), (4.0, 2, false));
 /// assert_eq!(score("\u{416}", None, &tables).unwrap_err().to_string(),
-///     "refusal 6: the code point at index 0 of the text is in no record of the class table");
+///     "refusal 6: the code point at index 0 of the text, or in a ranking its lower case, is in no record of the class table");
 /// assert_eq!(score(&['a'][..], Some(f32::NAN), &tables).unwrap_err().number, 4);
 /// # Ok::<(), drasumira::Refusal>(())
 /// ```
@@ -138,20 +160,51 @@ pub fn score<'a>(text: impl Into<Text<'a>>, threshold: Option<f32>, tables: &Tab
     unless_refused(told.number, told.place, score)
 }
 
-/// The score of each line. A line ends at U+000A, which is no part of it; a last line without one counts. Each line is a call of its own.
+// The score that a row of the library's output holds.
+fn told_in(row: &[u32]) -> Result<Score, Refusal> {
+    let float = |at: usize| f32::from_bits(row[at]);
+    let score = Score {
+        symbols: float(2),
+        accents: float(3),
+        unprintable: float(4),
+        ranges: float(5),
+        doubled: float(6),
+        words: float(7),
+        stops: float(8),
+        archaic: float(9),
+        sum: float(10),
+        fed: row[11],
+        stopped: row[12] != 0,
+    };
+    unless_refused(row[0], row[1], score)
+}
+
+// How many lines the bytes are.
+fn count_lines(bytes: &[u8]) -> usize {
+    let ended = bytes.iter().filter(|b| **b == b'\n').count();
+    ended + bytes.last().is_some_and(|b| *b != b'\n') as usize
+}
+
+/// The score of each line, of a `&str` or of bytes: what [`score`] answers for the line alone, with one check of the tables for all. A line
+/// ends at U+000A, which is no part of it; a last line without one counts; no bytes are no lines. A refused line is told in its place. The
+/// whole call is refused as 1 over [`LONGEST_BURST`] bytes, and as 4 where the threshold is not finite.
 ///
 /// ```
-/// use drasumira::{Tables, score_lines};
-/// let scores = score_lines("plain\n\u{1}\u{1}\n", None, &Tables::builtin_only());
-/// assert_eq!(scores.len(), 2);
-/// assert!(scores[0].as_ref().unwrap().sum < scores[1].as_ref().unwrap().sum);
+/// use drasumira::{Refusal, Tables, score_lines};
+/// let told = score_lines(b"plain\n\xFF\n\x01\x01", None, &Tables::builtin_only())?;
+/// assert_eq!(told.len(), 3);
+/// assert_eq!(told[1], Err(Refusal { number: 2, place: 0 }));
+/// assert!(told[0]?.sum < told[2]?.sum);
+/// # Ok::<(), drasumira::Refusal>(())
 /// ```
-pub fn score_lines(text: &str, threshold: Option<f32>, tables: &Tables) -> Vec<Result<Score, Refusal>> {
-    let lines = text.strip_suffix('\n').unwrap_or(text);
-    if text.is_empty() {
-        return vec![];
-    }
-    lines.split('\n').map(|line| score(line, threshold, tables)).collect()
+pub fn score_lines(lines: impl AsRef<[u8]>, threshold: Option<f32>, tables: &Tables) -> Result<Vec<Result<Score, Refusal>>, Refusal> {
+    let bytes = lines.as_ref();
+    // bytes that are refused need no room
+    let room = if bytes.len() > LONGEST_BURST { 0 } else { NUMBERS_PER_LINE * count_lines(bytes) };
+    let mut out = vec![0; room];
+    let threshold = threshold.unwrap_or(DEFAULT_THRESHOLD);
+    accepted(host::score_lines(bytes, threshold, &tables.classes, &tables.pairs, &mut out))?;
+    Ok(out.chunks_exact(NUMBERS_PER_LINE).map(told_in).collect())
 }
 
 /// Reads UTF-8 into the first places of `out`, one code point each, and answers how many; the rest of `out` stays, and all of it in a refusal.

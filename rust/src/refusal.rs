@@ -17,14 +17,23 @@ impl fmt::Display for Refusal {
         let place = self.place;
         write!(f, "refusal {}: ", self.number)?;
         match self.number {
-            1 => write!(f, "the text is over 262,144 bytes or 65,536 code points"),
+            1 => write!(
+                f,
+                "the text is over 262,144 bytes or 65,536 code points, in a ranking over 8,192 code points, or many lines are over 16,777,216 bytes"
+            ),
             2 => write!(f, "the bytes are not UTF-8; the bad sequence begins at byte {place}"),
-            3 => write!(f, "the output is too short for the code points"),
+            3 => write!(f, "a lent output or work area is too short"),
             4 => write!(f, "the threshold is not a finite number"),
             5 if place == 0 => write!(f, "the class table is not good: its length, its number of records, or record 0"),
             5 => write!(f, "the class table is not good: record {place}, counted from 0, is the first bad one"),
-            6 => write!(f, "the code point at index {place} of the text is in no record of the class table"),
+            6 => {
+                write!(f, "the code point at index {place} of the text, or in a ranking its lower case, is in no record of the class table")
+            }
             7 => write!(f, "the pair table is not 32,768 bytes"),
+            8 if place == 0 => write!(f, "the language table is not good: its length, its number of records, or record 0"),
+            8 => write!(f, "the language table is not good: record {place}, counted from 0, is the first bad one"),
+            9 if place == 0 => write!(f, "over 64 numbers are included, or the one at index 0 is in no record of the language table"),
+            9 => write!(f, "the included number at index {place} is in no record of the language table"),
             _ => write!(f, "place {place}"),
         }
     }

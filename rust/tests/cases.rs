@@ -1,5 +1,5 @@
 // What 01 marks of the whole scan, the refusals in their order, and that nothing lent is changed.
-use drasumira::{Refusal, RefusedText, Tables, Which, choose, read, score, score_lines, verdict};
+use drasumira::{LONGEST_BURST, Refusal, RefusedText, Tables, Which, choose, read, score, score_lines, verdict};
 
 fn chars(text: &str) -> Vec<char> {
     text.chars().collect()
@@ -59,10 +59,34 @@ fn a_refused_reading_changes_nothing() {
 #[test]
 fn lines() {
     let tables = Tables::builtin_only();
-    assert!(score_lines("", None, &tables).is_empty());
-    assert_eq!(score_lines("\n", None, &tables), [score("", None, &tables)]);
-    assert_eq!(score_lines("a\n\u{1}", None, &tables), [score("a", None, &tables), score("\u{1}", None, &tables)]);
-    assert_eq!(score_lines("a\nЖ\n", None, &tables)[1], Err(refusal(6, 0)));
+    let told = |lines: &[u8]| score_lines(lines, None, &tables).unwrap();
+    assert!(told(b"").is_empty());
+    assert_eq!(told(b"\n"), [score("", None, &tables)]);
+    assert_eq!(told(b"a\n\x01"), [score("a", None, &tables), score("\u{1}", None, &tables)]);
+    assert_eq!(told("a\n\nbЖ\n\n".as_bytes())[1..], [score("", None, &tables), Err(refusal(6, 1)), score("", None, &tables)]);
+    assert_eq!(told(b"ab\xE2\x82\nc"), [Err(refusal(2, 2)), score("c", None, &tables)]);
+    let long = "a".repeat(65_537);
+    assert_eq!(told(format!("{long}\n{}", &long[1..]).as_bytes()), [Err(refusal(1, 0)), score(&long[1..], None, &tables)]);
+}
+
+#[test]
+fn lines_as_alone() {
+    let tables = Tables::full();
+    let all = "Voix ambiguë d'un cœur\n\nСъешь же ещё этих мягких\n\u{1}\u{FFFD}日本語\nplain plain plain plain plain plain plain";
+    for threshold in [None, Some(0.0), Some(-1.0), Some(9.0)] {
+        let alone: Vec<_> = all.split('\n').map(|line| score(line, threshold, &tables)).collect();
+        assert_eq!(score_lines(all, threshold, &tables), Ok(alone));
+    }
+}
+
+#[test]
+fn a_burst_refused() {
+    let tables = Tables::builtin_only();
+    assert_eq!(score_lines("a", Some(f32::NAN), &tables), Err(refusal(4, 0)));
+    let longest = vec![b'a'; LONGEST_BURST + 1];
+    assert_eq!(score_lines(&longest, Some(f32::NAN), &tables), Err(refusal(1, 0)));
+    // one line, which is too long for a text
+    assert_eq!(score_lines(&longest[1..], None, &tables), Ok(vec![Err(refusal(1, 0))]));
 }
 
 #[test]
@@ -76,7 +100,7 @@ fn the_chooser() {
     assert_eq!(verdict(&plain, &foreign, &tables), Err(second));
     assert_eq!(
         second.to_string(),
-        "of the second text: refusal 6: the code point at index 0 of the text is in no record of the class table"
+        "of the second text: refusal 6: the code point at index 0 of the text, or in a ranking its lower case, is in no record of the class table"
     );
     assert!(choose(&plain, &foreign, &tables).is_empty());
 }

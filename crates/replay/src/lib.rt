@@ -72,6 +72,33 @@ pub fn words(buf: &[u8], from: usize, out: &mut [u32])
     }
 }
 
+// Flips a bit of the table, counted from the lowest of the first byte; one past its end is passed over.
+fn flip(table: &mut [u8], bit: u32)
+    ensures { λ _. ⌜ length (now (table .exit)) ≡ length (now (table .entry)) ⌝ }
+{
+    let at = (bit / 8) as usize;
+    if at < table.len() {
+        table[at] = table[at] ^ (1 << (bit % 8));
+    }
+}
+
+// Flips the n bits of the table that the words from `from` on name.
+pub fn flip_bits(buf: &[u8], from: usize, n: usize, table: &mut [u8])
+    ensures { λ _. ⌜ length (now (table .exit)) ≡ length (now (table .entry)) ⌝ }
+{
+    let end = buf.len() / WORD;
+    let mut k = from;
+    let mut i = 0;
+    while i < n {
+        if k >= end {
+            return;
+        }
+        flip(table, word(buf, k));
+        k += 1;
+        i += 1;
+    }
+}
+
 // The f32 of these bits; a NaN for every NaN's.
 pub fn float_of(bits: u32) -> f32 {
     let zero: f32 = 0.0;

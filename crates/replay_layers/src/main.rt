@@ -12,6 +12,7 @@ use bits::pick;
 use layers::alpha_unicode_split;
 use letters::rank;
 use letters::size;
+use replay::flip_bits;
 use replay::next_case;
 use replay::say;
 use replay::word;
@@ -33,20 +34,6 @@ const LAST_WORD: usize = 8192;
 // the pairs are flipped. Then come the pairs, each as 512a + b; the characters' ranges, 0 for one that is not taken; the lowered letters; and
 // for each layer how many letters it has, these letters, how many different ones it has, and these by popularity.
 const HEAD: usize = 4;
-
-// Flips the bits of the n pairs that stand from the word `from` on.
-fn flip_pairs(buf: &[u8], from: usize, n: usize, pairs: &mut [u8])
-    requires { ⌜ (from ≤ LAST-WORD) × (n ≤ LONGEST) × (length (now pairs) ≡ PAIR-BYTES) ⌝ }
-    ensures { λ _. ⌜ length (now (pairs .exit)) ≡ PAIR-BYTES ⌝ }
-{
-    let mut i = 0;
-    while i < n {
-        let bit = word(buf, from + i) % (RANGES * RANGES);
-        let at = (bit / 8) as usize;
-        pairs[at] = pairs[at] ^ (1 << (bit % 8));
-        i += 1;
-    }
-}
 
 // Puts the ranges that stand from the word `from` on into the first n words of the work area.
 fn set_ranges(buf: &[u8], from: usize, n: usize, work: &mut [u32])
@@ -155,7 +142,7 @@ fn same_case(buf: &[u8]) -> bool {
     let fill = (word(buf, 3) % 256) as u8;
     let mut pairs = [fill; PAIR_BYTES];
     let mut work = [0u32; WORK];
-    flip_pairs(buf, HEAD, p, &mut pairs);
+    flip_bits(buf, HEAD, p, &mut pairs);
     same_text(buf, n, p, &pairs, &mut work)
 }
 

@@ -1,0 +1,120 @@
+use crate::host::coherence::{Question, coherence as ask};
+use crate::{Refusal, Tables, Text, read, unless_refused};
+
+/// What charset-normalizer-rs gives for `small`: a layer of at most so many letters says nothing of a language.
+pub const TOO_SMALL_SEQUENCE: u32 = 32;
+
+const RECORD: usize = 1_032;
+const WORK_PER_POINT: usize = 4;
+const MOST_POINTS_READ: usize = 65_536;
+
+/// A language of a text, by its number in the language table, and how well the text's letters fit its own, from 0 to 1.
+#[repr(C)]
+#[derive(Clone, Copy, Debug, Default, PartialEq)]
+pub struct CoherenceMatch {
+    pub language: u32,
+    pub score: f32,
+}
+
+/// A language table, checked when this is made.
+#[derive(Clone, Debug)]
+pub struct Languages {
+    records: Vec<u8>,
+}
+
+impl Languages {
+    /// Takes records of 1,032 bytes, little-endian: number u32, letter count u16, marks u16 (1 accents, 2 pure Latin), 256 letters u32
+    /// by popularity; at most 63. Refused as 8 where they are not good.
+    ///
+    /// ```
+    /// use drasumira::{Languages, Refusal};
+    /// let mut record = vec![0; 1032];
+    /// assert_eq!(Languages::new(record.clone()).err(), Some(Refusal { number: 8, place: 0 }));
+    /// record[0] = 7; // the number
+    /// record[4] = 2; // two letters
+    /// record[8] = b'e';
+    /// record[12] = b't';
+    /// assert!(Languages::new(record).is_ok());
+    /// ```
+    pub fn new(records: Vec<u8>) -> Result<Languages, Refusal> {
+        let languages = Languages { records };
+        // the library's own word on the table
+        ranking(&[], None, 0, &Tables::builtin_only(), &languages, &[]).map(|_| languages)
+    }
+
+    /// The table made from charset-normalizer-rs: 41 records of 38 languages, numbered from 1 ([`language_name`] has their names).
+    pub fn full() -> Languages {
+        let records = include_bytes!("../../tables/languages.bin").to_vec();
+        Languages::new(records).expect("the table that this package carries is good")
+    }
+}
+
+/// The name that charset-normalizer-rs has for a number of [`Languages::full`].
+///
+/// ```
+/// assert_eq!(drasumira::language_name(3), Some("French"));
+/// assert_eq!(drasumira::language_name(0), None);
+/// ```
+pub fn language_name(number: u32) -> Option<&'static str> {
+    let lines = include_str!("../../tables/languages.txt").lines().filter(|line| !line.starts_with('#'));
+    let mut fields = lines.map(|line| line.split(' ')).find(|fields| fields.clone().next() == Some(&number.to_string()))?;
+    fields.nth(4)
+}
+
+/// The languages that a text may be in, the best first; of equal scores the one whose first record stands first in the table.
+///
+/// The text has at most 8,192 code points. Layers of at most `small` letters are passed over. A match below the threshold is left out;
+/// without one 0.1 is used. `included` names the languages to compare with; empty, the alphabets choose, and `[0]` is the alphabets of
+/// pure Latin languages alone.
+///
+/// ```
+/// use drasumira::{Languages, TOO_SMALL_SEQUENCE, Tables, coherence, language_name};
+/// let (tables, languages) = (Tables::full(), Languages::full());
+/// let greek = "Το σήμα στη βόρεια διασταύρωση είναι κλειστό και το τρένο περιμένει";
+/// let found = coherence(greek, None, TOO_SMALL_SEQUENCE, &tables, &languages, &[])?;
+/// assert_eq!(language_name(found[0].language), Some("Greek"));
+/// let latin_only = coherence(greek, None, TOO_SMALL_SEQUENCE, &tables, &languages, &[0])?;
+/// assert!(latin_only.is_empty());
+/// let unknown = coherence("text", None, TOO_SMALL_SEQUENCE, &tables, &languages, &[3, 99]).unwrap_err();
+/// assert_eq!(unknown.to_string(), "refusal 9: the included number at index 1 is in no record of the language table");
+/// # Ok::<(), drasumira::Refusal>(())
+/// ```
+///
+/// Bytes that are not UTF-8 are refused before all else, as by [`read`].
+pub fn coherence<'a>(
+    text: impl Into<Text<'a>>,
+    threshold: Option<f32>,
+    small: u32,
+    tables: &Tables,
+    languages: &Languages,
+    included: &[u32],
+) -> Result<Vec<CoherenceMatch>, Refusal> {
+    let points: Vec<u32> = match text.into() {
+        Text::Chars(chars) => chars.iter().map(|c| *c as u32).collect(),
+        Text::Bytes(bytes) => {
+            let mut points = vec![0; bytes.len().min(MOST_POINTS_READ)];
+            let count = read(bytes, &mut points)?;
+            points.truncate(count);
+            points
+        }
+    };
+    ranking(&points, threshold, small, tables, languages, included)
+}
+
+// The work area and the list are made here, as long as they must be.
+fn ranking(
+    text: &[u32],
+    threshold: Option<f32>,
+    small: u32,
+    tables: &Tables,
+    languages: &Languages,
+    included: &[u32],
+) -> Result<Vec<CoherenceMatch>, Refusal> {
+    let languages = &languages.records;
+    let question = Question { text, threshold, small, classes: &tables.classes, pairs: &tables.pairs, languages, included };
+    let mut work = vec![0; WORK_PER_POINT * text.len()];
+    let mut matches = vec![CoherenceMatch::default(); languages.len() / RECORD];
+    let told = ask(&question, &mut work, &mut matches);
+    matches.truncate(told.count as usize);
+    unless_refused(told.number, told.place, matches)
+}
