@@ -1,5 +1,5 @@
-// The built-in table of U+0000 to U+024F, written twice from one list: as Rattle constants, each entry one word, and as antt lists, a list
-// for each field and one of the words.
+// The built-in table of U+0000 to U+024F, written from one list: as Rattle constants, each entry one word; as antt lists, one for each field,
+// which are what the table says; and as the antt list of those words, which the code's contracts cite.
 use crate::tables::{BUILTIN_END, base_if_accented, point};
 use oracle::open::{Class, crate_class};
 use std::fmt::Write;
@@ -20,7 +20,7 @@ fn entries() -> Vec<Class> {
     (0..BUILTIN_END).map(|n| base_if_accented(crate_class(point(n)))).collect()
 }
 
-// An entry as one word, as crates/builtin/specs/Packed.antt takes it apart.
+// An entry as one word, as crates/class_builtin/specs/Inner/Packed.antt takes it apart.
 fn packed(e: &Class) -> String {
     assert!(e.flags < 1 << 25 && e.range < 1 << 7 && e.base < 1 << 16 && e.lower < 1 << 16);
     let word = u64::from(e.flags) | u64::from(e.range) << 25 | u64::from(e.base) << 32 | u64::from(e.lower) << 48;
@@ -34,15 +34,18 @@ fn columns(entries: &[Class]) -> Vec<Column> {
         column("rangeNumbers", "numbers of the ranges", entries.iter().map(|e| e.range.to_string()).collect()),
         column("bases", "letters without accent; 0: the character itself", entries.iter().map(|e| hex(e.base)).collect()),
         column("lowers", "lower-case letters; 0: the character itself", entries.iter().map(|e| hex(e.lower)).collect()),
-        column("packedWords", "the four of them in one word (Packed)", entries.iter().map(packed).collect()),
     ]
+}
+
+fn packed_column(entries: &[Class]) -> Column {
+    Column { list: "packedWords", says: "flag word, range, base and lower-case letter in one word (Packed)", words: entries.iter().map(packed).collect() }
 }
 
 // One constant to a line with its code point, which is also how the kit's formatter lays an array out.
 fn rattle(entries: &[Class]) -> String {
     let mut out = String::from(
-        "// The built-in table of U+0000 to U+024F: flag word, range, base and lower-case letter of each code point, in one word (specs/Packed.antt).\n\
-         // Written by the oracle (oracle/harness/builtin.rs); specs/Words.antt has the same numbers. Do not edit either: see oracle/README.md.\n",
+        "// The built-in table of U+0000 to U+024F: flag word, range, base and lower-case letter of each code point, in one word (specs/Inner/Packed.antt).\n\
+         // Written by the oracle (oracle/harness/builtin.rs); specs/Inner/Words.antt has the same numbers. Do not edit either: see oracle/README.md.\n",
     );
     write!(out, "\npub const WORDS: [u64; {}] = [\n", entries.len()).unwrap();
     for (n, e) in entries.iter().enumerate() {
@@ -51,13 +54,13 @@ fn rattle(entries: &[Class]) -> String {
     out + "];\n"
 }
 
-fn antt(columns: &[Column]) -> String {
-    let mut out = String::from(
-        "-- The built-in table of U+0000 to U+024F (01, \"Tables\"), as four lists, and as the words of src/words.rt.\n\
-         -- Written by the oracle (oracle/harness/builtin.rs) from the crate's own answers. Do not edit either: see oracle/README.md.\n\
+fn antt(says: &str, columns: &[Column]) -> String {
+    let mut out = format!(
+        "-- {says}\n\
+         -- Written by the oracle (oracle/harness/builtin.rs) from the crate's own answers. Do not edit it: see oracle/README.md.\n\
          -- Assumes nothing.\n\
-         use Prim.Native.Nat.{ℕ}\n\
-         use mathlib.Core.List.{List, [], _∷_}\n",
+         use Prim.Native.Nat.{{ℕ}}\n\
+         use mathlib.Core.List.{{List, [], _∷_}}\n",
     );
     for c in columns {
         write!(out, "\n-- {}\nunfoldable pub {} : List ℕ\n{} =\n", c.says, c.list, c.list).unwrap();
@@ -74,5 +77,8 @@ pub fn write(dir: &str) -> std::io::Result<()> {
     let entries = entries();
     std::fs::create_dir_all(dir)?;
     std::fs::write(format!("{dir}/words.rt.txt"), rattle(&entries))?;
-    std::fs::write(format!("{dir}/Words.antt.txt"), antt(&columns(&entries)))
+    let said = antt("The built-in table of U+0000 to U+024F (01, \"Tables\"), as four lists.", &columns(&entries));
+    std::fs::write(format!("{dir}/Words.antt.txt"), said)?;
+    let words = antt("The words of src/words.rt: the built-in table as the code holds it.", &[packed_column(&entries)]);
+    std::fs::write(format!("{dir}/Inner-Words.antt.txt"), words)
 }

@@ -2,6 +2,8 @@
 // pointer and length, and a struct of more than 16 bytes comes back through the first pointer, which is also returned.
 pub mod coherence;
 
+use std::mem::offset_of;
+
 #[repr(C)]
 #[derive(Clone, Copy, Default)]
 pub struct HostRead {
@@ -12,9 +14,7 @@ pub struct HostRead {
 
 #[repr(C)]
 #[derive(Clone, Copy, Default)]
-pub struct HostScore {
-    pub number: u32,
-    pub place: u32,
+pub struct Ratios {
     pub symbols: f32,
     pub accents: f32,
     pub unprintable: f32,
@@ -23,6 +23,14 @@ pub struct HostScore {
     pub words: f32,
     pub stops: f32,
     pub archaic: f32,
+}
+
+#[repr(C)]
+#[derive(Clone, Copy, Default)]
+pub struct HostScore {
+    pub number: u32,
+    pub place: u32,
+    pub ratios: Ratios,
     pub sum: f32,
     pub fed: u32,
     pub stopped: u32,
@@ -39,6 +47,20 @@ pub struct HostVerdict {
 
 // The layouts that the library writes.
 const _: () = assert!(size_of::<HostRead>() == 12 && size_of::<HostScore>() == 52 && size_of::<HostVerdict>() == 16);
+const _: () = assert!(offset_of!(HostScore, number) == 0 && offset_of!(HostScore, place) == 4 && offset_of!(HostScore, ratios) == 8);
+const _: () = assert!(offset_of!(HostScore, sum) == 40 && offset_of!(HostScore, fed) == 44 && offset_of!(HostScore, stopped) == 48);
+const _: () = assert!(offset_of!(Ratios, symbols) == 0 && offset_of!(Ratios, accents) == 4 && offset_of!(Ratios, unprintable) == 8);
+const _: () = assert!(offset_of!(Ratios, ranges) == 12 && offset_of!(Ratios, doubled) == 16 && offset_of!(Ratios, words) == 20);
+const _: () = assert!(offset_of!(Ratios, stops) == 24 && offset_of!(Ratios, archaic) == 28 && size_of::<Ratios>() == 32);
+
+// The numbers that the library puts into its output for each line: HostScore's, a float as its bits.
+pub const NUMBERS_PER_LINE: usize = size_of::<HostScore>() / size_of::<u32>();
+
+// The score that a row of the library's output holds. Both are the same 52 bytes, and every u32 is an f32's bits.
+pub fn told_in(row: &[u32]) -> HostScore {
+    let row: [u32; NUMBERS_PER_LINE] = row.try_into().expect("a whole row");
+    unsafe { std::mem::transmute(row) }
+}
 
 #[rustfmt::skip]
 unsafe extern "C" {

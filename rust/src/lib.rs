@@ -115,9 +115,6 @@ pub const DEFAULT_THRESHOLD: f32 = 0.2;
 /// Bytes that [`score_lines`] takes in one call.
 pub const LONGEST_BURST: usize = 16_777_216;
 
-// The numbers that the library puts into its output for each line.
-const NUMBERS_PER_LINE: usize = 13;
-
 fn unless_refused<T>(number: u32, place: u32, told: T) -> Result<T, Refusal> {
     if number == 0 { Ok(told) } else { Err(Refusal { number, place }) }
 }
@@ -144,39 +141,24 @@ pub fn score<'a>(text: impl Into<Text<'a>>, threshold: Option<f32>, tables: &Tab
         Text::Bytes(bytes) => host::score_utf8(bytes, threshold, &tables.classes, &tables.pairs),
         Text::Chars(chars) => host::score(chars, threshold, &tables.classes, &tables.pairs),
     };
+    scored(told)
+}
+
+fn scored(told: host::HostScore) -> Result<Score, Refusal> {
     let score = Score {
-        symbols: told.symbols,
-        accents: told.accents,
-        unprintable: told.unprintable,
-        ranges: told.ranges,
-        doubled: told.doubled,
-        words: told.words,
-        stops: told.stops,
-        archaic: told.archaic,
+        symbols: told.ratios.symbols,
+        accents: told.ratios.accents,
+        unprintable: told.ratios.unprintable,
+        ranges: told.ratios.ranges,
+        doubled: told.ratios.doubled,
+        words: told.ratios.words,
+        stops: told.ratios.stops,
+        archaic: told.ratios.archaic,
         sum: told.sum,
         fed: told.fed,
         stopped: told.stopped != 0,
     };
     unless_refused(told.number, told.place, score)
-}
-
-// The score that a row of the library's output holds.
-fn told_in(row: &[u32]) -> Result<Score, Refusal> {
-    let float = |at: usize| f32::from_bits(row[at]);
-    let score = Score {
-        symbols: float(2),
-        accents: float(3),
-        unprintable: float(4),
-        ranges: float(5),
-        doubled: float(6),
-        words: float(7),
-        stops: float(8),
-        archaic: float(9),
-        sum: float(10),
-        fed: row[11],
-        stopped: row[12] != 0,
-    };
-    unless_refused(row[0], row[1], score)
 }
 
 // How many lines the bytes are.
@@ -200,11 +182,11 @@ fn count_lines(bytes: &[u8]) -> usize {
 pub fn score_lines(lines: impl AsRef<[u8]>, threshold: Option<f32>, tables: &Tables) -> Result<Vec<Result<Score, Refusal>>, Refusal> {
     let bytes = lines.as_ref();
     // bytes that are refused need no room
-    let room = if bytes.len() > LONGEST_BURST { 0 } else { NUMBERS_PER_LINE * count_lines(bytes) };
+    let room = if bytes.len() > LONGEST_BURST { 0 } else { host::NUMBERS_PER_LINE * count_lines(bytes) };
     let mut out = vec![0; room];
     let threshold = threshold.unwrap_or(DEFAULT_THRESHOLD);
     accepted(host::score_lines(bytes, threshold, &tables.classes, &tables.pairs, &mut out))?;
-    Ok(out.chunks_exact(NUMBERS_PER_LINE).map(told_in).collect())
+    Ok(out.chunks_exact(host::NUMBERS_PER_LINE).map(|row| scored(host::told_in(row))).collect())
 }
 
 /// Reads UTF-8 into the first places of `out`, one code point each, and answers how many; the rest of `out` stays, and all of it in a refusal.

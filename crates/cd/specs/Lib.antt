@@ -1,10 +1,4 @@
 pub mod Causes
-pub mod Tables
-pub mod CausesLaws
-pub mod Coherence
-pub mod Reading
-pub mod CoherenceLaws
-pub mod Fits
 pub mod KeptMatches
-pub mod Best
-pub mod ForReaders
+pub mod Coherence
+pub mod Inner

@@ -1,14 +1,14 @@
 // The ranking of the languages of a text (cd.rs: coherence_ratio).
 ghost use mathlib.Core.Path.{_≡_};
 ghost use lib.ListN.{length};
-ghost use Rattle.ranking.specs.Ranking.{byValue};
+ghost use Rattle.cd_ranking.specs.Ranking.{byValue};
 ghost use Rattle.cd.specs.Causes.{causes, causesDefault};
-ghost use Rattle.cd.specs.CausesLaws.{Free};
+ghost use Rattle.cd.specs.Inner.Causes.{Free};
 ghost use Rattle.cd.specs.Coherence as spec;
-use bits::Refusal;
-use bits::limits::WORK_PER_POINT;
+use base::Cause;
+use base::limits::WORK_PER_POINT;
 use causes::first_cause;
-use ranking::Ranking;
+use cd_ranking::Ranking;
 use reading::read_layers;
 
 mod causes;
@@ -16,12 +16,6 @@ mod reading;
 
 // f32 0.1, which 01 uses where no threshold is given.
 pub const DEFAULT_THRESHOLD: f32 = 0.1;
-
-// Whether a call is refused, and why.
-pub enum Cause {
-    Allowed,
-    Refused(Refusal),
-}
 
 // The ranking of a text that is not refused. Only here is anything written to the work area.
 fn rank_text(
@@ -37,12 +31,12 @@ fn rank_text(
     requires { ⌜ Free (now text) (now classes) (now pairs) (now languages) (now included) (length (now work)) ⌝ }
     ensures { λ r. ⌜ (r ≡ byValue (spec.matchesOf (now (text .entry)) threshold small (now (classes .entry)) (now (pairs .entry)) (now (languages .entry)) (now (included .entry)))) × (now (work .exit) ≡ spec.cleared (now (text .entry)) (now (work .entry))) ⌝ }
 {
-    let n = text.len();
-    taken::fill(text, classes, work);
-    let count = layers::alpha_unicode_split(work, n, pairs);
+    let slots = cd_taken::slots(text);
+    cd_taken::fill_area(text, classes, work);
+    let count = cd_layers::alpha_unicode_split(work, slots, pairs);
     let standing = read_layers(
         work,
-        n,
+        slots,
         count,
         threshold,
         small,
@@ -50,8 +44,8 @@ fn rank_text(
         languages,
         included,
     );
-    taken::clear(work, WORK_PER_POINT * n);
-    ranking::ranking_of(standing, languages)
+    cd_taken::clear(work, WORK_PER_POINT * text.len());
+    cd_ranking::ranking_of(standing, languages)
 }
 
 // The languages of a text and their scores, the best first: by value, for a caller who has room for so many matches.
@@ -79,7 +73,7 @@ pub fn coherence_ratio(
         work.len(),
         room,
     ) {
-        Cause::Refused(r) => ranking::refused(r.number, r.place),
+        Cause::Refused(r) => cd_ranking::refused(r.number, r.place),
         Cause::Allowed => rank_text(
             text,
             threshold,

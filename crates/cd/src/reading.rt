@@ -1,14 +1,17 @@
-// The layers of a text, read one after the other off the work area: n layer numbers, n lowered letters, and 2n words for ranking a layer's letters.
+// The layers of a text, read one after the other off the work area.
 ghost use mathlib.Core.Path.{_≡_};
-ghost use Prim.Native.Nat.{_*_, _≤_};
+ghost use Prim.Native.Nat.{_≤_};
 ghost use lib.ListN.{length};
-ghost use Rattle.bits.specs.Limits.{LONGEST-RANKED, LAST-RANGE};
-ghost use Rattle.letters.specs.LayerLetters.{layerLetters};
-ghost use Rattle.standing.specs.Standing as standings;
-ghost use Rattle.cd.specs.Coherence.{layerAfter, orderAfter};
-ghost use Rattle.cd.specs.Tables.{Tables};
-ghost use Rattle.cd.specs.Reading.{Kept, readFrom};
-use standing::Standing;
+ghost use Rattle.base.specs.Limits.{LAST-RANGE};
+ghost use Rattle.base.specs.Inner.Limits.{MOST-LETTERS};
+ghost use Rattle.cd_work.specs.Inner.Parts.{Room, Kept};
+ghost use Rattle.cd_letters.specs.Inner.LayerLetters.{layerLetters};
+ghost use Rattle.cd_best.specs.Inner.Standing as standings;
+ghost use Rattle.cd.specs.Inner.After.{layerAfter, orderAfter};
+ghost use Rattle.cd.specs.Inner.Comparable.{Comparable};
+ghost use Rattle.cd.specs.Inner.Reading.{readFrom};
+use cd_best::Standing;
+use cd_work::order_start;
 
 // A layer whose distinct letters, by popularity, are these.
 fn read_order(
@@ -19,18 +22,18 @@ fn read_order(
     languages: &[u8],
     included: &[u32],
 ) -> Standing
-    requires { ⌜ Tables (now classes) (now languages) (now included) × (length (now order) ≤ LONGEST-RANKED) × (s .sufficient ≤ standings.MOST-BEFORE) ⌝ }
+    requires { ⌜ Comparable (now classes) (now languages) (now included) × (length (now order) ≤ MOST-LETTERS) × (s .sufficient ≤ standings.MOST-BEFORE) ⌝ }
     ensures { λ r. ⌜ r ≡ orderAfter threshold (now (classes .entry)) (now (languages .entry)) (now (included .entry)) s (now (order .entry)) ⌝ }
 {
-    let accented = taken::has_accents(order, classes);
-    matches::read_layer(s, order, languages, included, accented, threshold)
+    let accented = cd_taken::some_accented(order, classes);
+    cd_matches::read_matches(s, order, languages, included, accented, threshold)
 }
 
 // The layer k, unless it is too small.
 fn read_layer(
     s: Standing,
     work: &mut [u32],
-    n: usize,
+    slots: usize,
     k: u32,
     threshold: f32,
     small: u32,
@@ -38,14 +41,14 @@ fn read_layer(
     languages: &[u8],
     included: &[u32],
 ) -> Standing
-    requires { ⌜ Tables (now classes) (now languages) (now included) × (n ≤ LONGEST-RANKED) × (4 * n ≤ length (now work)) × (s .sufficient ≤ standings.MOST-BEFORE) ⌝ }
-    ensures { λ r. ⌜ (r ≡ layerAfter threshold small (now (classes .entry)) (now (languages .entry)) (now (included .entry)) s (layerLetters n k (now (work .entry)))) × Kept n (now (work .entry)) (now (work .exit)) ⌝ }
+    requires { ⌜ Comparable (now classes) (now languages) (now included) × Room slots (now work) × (s .sufficient ≤ standings.MOST-BEFORE) ⌝ }
+    ensures { λ r. ⌜ (r ≡ layerAfter threshold small (now (classes .entry)) (now (languages .entry)) (now (included .entry)) s (layerLetters slots k (now (work .entry)))) × Kept slots (now (work .entry)) (now (work .exit)) ⌝ }
 {
-    if letters::size(&work[..n], k) <= small as usize {
+    if cd_letters::size(&work[..slots], k) <= small as usize {
         return s;
     }
-    let d = letters::rank(work, n, k);
-    let start = n + n + n;
+    let d = cd_letters::rank(work, slots, k);
+    let start = order_start(slots);
     let end = start + d;
     read_order(
         s,
@@ -60,7 +63,7 @@ fn read_layer(
 // All layers, in making order.
 pub fn read_layers(
     work: &mut [u32],
-    n: usize,
+    slots: usize,
     count: usize,
     threshold: f32,
     small: u32,
@@ -68,17 +71,17 @@ pub fn read_layers(
     languages: &[u8],
     included: &[u32],
 ) -> Standing
-    requires { ⌜ Tables (now classes) (now languages) (now included) × (n ≤ LONGEST-RANKED) × (4 * n ≤ length (now work)) × (count ≤ LAST-RANGE) ⌝ }
-    ensures { λ r. ⌜ (r ≡ readFrom threshold small (now (classes .entry)) (now (languages .entry)) (now (included .entry)) n (now (work .entry)) 0 count standings.start) × Kept n (now (work .entry)) (now (work .exit)) ⌝ }
+    requires { ⌜ Comparable (now classes) (now languages) (now included) × Room slots (now work) × (count ≤ LAST-RANGE) ⌝ }
+    ensures { λ r. ⌜ (r ≡ readFrom threshold small (now (classes .entry)) (now (languages .entry)) (now (included .entry)) slots (now (work .entry)) 0 count standings.start) × Kept slots (now (work .entry)) (now (work .exit)) ⌝ }
 {
-    let mut s = standing::start();
+    let mut s = cd_best::start();
     let mut k = 0;
     while k < count {
         k += 1;
         s = read_layer(
             s,
             work,
-            n,
+            slots,
             k as u32,
             threshold,
             small,

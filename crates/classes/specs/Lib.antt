@@ -1,5 +1,4 @@
 pub mod Lookup
-pub mod LookupLaws
 pub mod Check
-pub mod CheckLaws
 pub mod Pairs
+pub mod Inner

@@ -3,12 +3,12 @@
 -- Assumes nothing.
 use Prim.Native.Nat.{ℕ}
 use mathlib.Core.List.{List}
-use mathlib.Core.Bool.{cond}
+use mathlib.Core.Bool.{Bool, true, false, cond}
 use lib.Dec.{ltb, eqb}
-use Rattle.bits.specs.Limits.{BUILTIN-END}
-use Rattle.builtin.specs.Table.{entryAt}
-use Rattle.records.specs.Records.{records, recordAt, holder}
-use Rattle.records.specs.declared.Record.{Record}
+use Rattle.base.specs.Limits.{BUILTIN-END}
+use Rattle.class_builtin.specs.Table.{entryAt}
+use Rattle.class_records.specs.Records.{records, recordAt, holder}
+use Rattle.class_records.specs.declared.Record.{Record}
 use Rattle.classes.specs.declared.Class.{Class}
 use Rattle.classes.specs.declared.Found.{Found}
 use Rattle.classes.specs.declared.Found.the-variants.{At, Nothing}
@@ -39,3 +39,8 @@ lentClass t p = cond (ltb (holder t p) (records t)) (At (recordClass (recordAt t
 
 unfoldable pub classOf : List ℕ → ℕ → Found
 classOf t p = cond (ltb p BUILTIN-END) (At (builtinClass p)) (lentClass t p)
+
+-- no class was found
+abbrev pub missing : Found → Bool
+missing (At c) = false
+missing Nothing = true

@@ -2,21 +2,24 @@
 ghost use mathlib.Core.Path.{_≡_};
 ghost use mathlib.Core.Bool.{true};
 ghost use Prim.Native.Nat.{_≤_, _<_};
-ghost use lib.Dec.{eqb};
 ghost use lib.ListN.{length};
-ghost use Rattle.bits.specs.Limits.{BUILTIN-END, LAST-RANGE, PAIR-BYTES};
-ghost use Rattle.builtin.specs.Words.{packedWords};
-ghost use Rattle.records.specs.Records.{goodTable, holder};
+ghost use Rattle.base.specs.Limits.{BUILTIN-END, LAST-RANGE, PAIR-BYTES};
+ghost use Rattle.class_builtin.specs.Inner.Words.{packedWords};
+ghost use Rattle.class_records.specs.Records.{goodTable, holder};
 ghost use Rattle.classes.specs.Lookup.{orSelf, builtinClass, lentClass, classOf};
-ghost use Rattle.classes.specs.Check.{checked, refusedAt};
-ghost use Rattle.classes.specs.Pairs.{suspicious};
-use bits::Refusal;
-use bits::limits::BUILTIN_END;
-use bits::limits::CLASS_RECORD;
-use bits::limits::MOST_CLASSES;
-use bits::limits::PAIR_BYTES;
-use bits::limits::RANGES;
-use bits::refusals::BAD_CLASSES;
+ghost use Rattle.classes.specs.Check.{badClasses, checked};
+ghost use Rattle.classes.specs.Pairs.{badPairs, suspicious};
+use base::Cause;
+use base::Counted;
+use base::limits::BUILTIN_END;
+use base::limits::CLASS_RECORD;
+use base::limits::MOST_CLASSES;
+use base::limits::PAIR_BYTES;
+use base::limits::RANGES;
+use base::refusals::BAD_CLASSES;
+use base::refusals::BAD_PAIRS;
+use base::refuse;
+use class_builtin::Table;
 
 // A code point and what the tables say of it. `base` is the letter without accent and `lower` the lower-case letter, the character itself
 // where a table has 0. (md/structs.rs: MessDetectorChar, its character, flags and unicode_range.)
@@ -37,12 +40,6 @@ pub enum Found {
     Nothing,
 }
 
-// What the check of a class table says: good, with the number of records, or refused.
-pub enum Checked {
-    Good(u32),
-    Refused(Refusal),
-}
-
 // 0 in a table means the character itself.
 fn or_self(n: u32, point: u32) -> u32
     ensures { λ r. ⌜ r ≡ orSelf n point ⌝ }
@@ -50,11 +47,11 @@ fn or_self(n: u32, point: u32) -> u32
     if n == 0 { point } else { n }
 }
 
-fn builtin_class(point: u32, table: &[u64; 592]) -> Class
+fn builtin_class(point: u32, table: &Table) -> Class
     requires { ⌜ (point < BUILTIN-END) × (now table ≡ packedWords) ⌝ }
     ensures { λ r. ⌜ r ≡ builtinClass point ⌝ }
 {
-    let e = builtin::entry_in(table, point);
+    let e = class_builtin::entry_in(table, point);
     Class {
         point,
         flags: e.flags,
@@ -70,7 +67,7 @@ fn class_in(point: u32, at: usize, classes: &[u8]) -> Found
     ensures { λ r. ⌜ r ≡ lentClass (now (classes .entry)) point ⌝ }
 {
     if at < classes.len() / CLASS_RECORD {
-        let r = records::record_at(classes, at);
+        let r = class_records::record_at(classes, at);
         return Found::At(Class {
             point,
             flags: r.flags,
@@ -87,13 +84,13 @@ fn lent_class(point: u32, classes: &[u8]) -> Found
     requires { ⌜ goodTable (now classes) ≡ true ⌝ }
     ensures { λ r. ⌜ r ≡ lentClass (now (classes .entry)) point ⌝ }
 {
-    class_in(point, records::search::find(classes, point), classes)
+    class_in(point, class_records::search::find(classes, point), classes)
 }
 
 // The class of a code point: below BUILTIN_END the built-in table's, past it that of the lent record that holds it. The built-in table is lent
-// too, so that a caller's loop makes it once (`builtin::table`); and the test of the code point stands here, apart from the search, so that such a
+// too, so that a caller's loop makes it once (`class_builtin::table`); and the test of the code point stands here, apart from the search, so that such a
 // loop has it in line.
-pub fn look_up_in(point: u32, table: &[u64; 592], classes: &[u8]) -> Found
+pub fn look_up_in(point: u32, table: &Table, classes: &[u8]) -> Found
     requires { ⌜ (goodTable (now classes) ≡ true) × (now table ≡ packedWords) ⌝ }
     ensures { λ r. ⌜ r ≡ classOf (now (classes .entry)) point ⌝ }
 {
@@ -105,64 +102,53 @@ pub fn look_up_in(point: u32, table: &[u64; 592], classes: &[u8]) -> Found
 
 // The same for the code points of a text, one after the other. `hints` are the records found last, a place for each remainder of a code point, so
 // that most are found without a search; whatever stands there, the answer is the same.
-pub fn look_up_near(
-    point: u32,
-    hints: &mut [usize; HINTS],
-    table: &[u64; 592],
-    classes: &[u8],
-) -> Found
+pub fn look_up_near(point: u32, hints: &mut [usize; HINTS], table: &Table, classes: &[u8]) -> Found
     requires { ⌜ (goodTable (now classes) ≡ true) × (now table ≡ packedWords) ⌝ }
     ensures { λ r. ⌜ r ≡ classOf (now (classes .entry)) point ⌝ }
 {
     if BUILTIN_END <= point {
         let k = point as usize % HINTS;
-        let at = records::search::find_near(classes, point, hints[k]);
+        let at = class_records::search::find_near(classes, point, hints[k]);
         hints[k] = at;
         return class_in(point, at, classes);
     }
     Found::At(builtin_class(point, table))
 }
 
-// The same for one code point. It makes the built-in table: a thousand instructions, so not for a loop.
-pub fn look_up(point: u32, classes: &[u8]) -> Found
-    requires { ⌜ goodTable (now classes) ≡ true ⌝ }
-    ensures { λ r. ⌜ r ≡ classOf (now (classes .entry)) point ⌝ }
+// Why a class table is not good, if it is not: a length or a number of records that is not allowed, at 0, then the first bad record.
+pub fn bad_classes(classes: &[u8]) -> Cause
+    ensures { λ r. ⌜ r ≡ badClasses (now (classes .entry)) ⌝ }
 {
-    let table = builtin::table();
-    look_up_in(point, &table, classes)
+    if classes.len() % CLASS_RECORD != 0 {
+        return refuse(BAD_CLASSES, 0);
+    }
+    if classes.len() / CLASS_RECORD > MOST_CLASSES {
+        return refuse(BAD_CLASSES, 0);
+    }
+    if !class_records::none_bad(classes) {
+        return refuse(BAD_CLASSES, class_records::first_bad(classes) as u32);
+    }
+    Cause::Allowed
 }
 
-fn refused(place: u32) -> Checked
-    ensures { λ r. ⌜ r ≡ refusedAt place ⌝ }
-{
-    Checked::Refused(Refusal {
-        number: BAD_CLASSES,
-        place,
-    })
-}
-
-// Whether a class table is good. Refusal 5 otherwise: a length or a number of records that is not allowed at 0, then the first bad record.
-pub fn check_classes(classes: &[u8]) -> Checked
+// The number of records of a class table, or why it is not good.
+pub fn check_classes(classes: &[u8]) -> Counted
     ensures { λ r. ⌜ r ≡ checked (now (classes .entry)) ⌝ }
 {
-    let n = classes.len() / CLASS_RECORD;
-    if classes.len() % CLASS_RECORD != 0 {
-        return refused(0);
+    match bad_classes(classes) {
+        Cause::Refused(why) => Counted::Refused(why),
+        Cause::Allowed => Counted::Count((classes.len() / CLASS_RECORD) as u32),
     }
-    if n > MOST_CLASSES {
-        return refused(0);
-    }
-    if !records::none_bad(classes) {
-        return refused(records::first_bad(classes) as u32);
-    }
-    Checked::Good(n as u32)
 }
 
-// Whether a pair table has its size.
-pub fn pairs_fit(pairs: &[u8]) -> bool
-    ensures { λ r. ⌜ r ≡ eqb (length (now (pairs .entry))) PAIR-BYTES ⌝ }
+// Why a pair table is refused, if it is: it has not its size.
+pub fn bad_pairs(pairs: &[u8]) -> Cause
+    ensures { λ r. ⌜ r ≡ badPairs (now (pairs .entry)) ⌝ }
 {
-    pairs.len() == PAIR_BYTES
+    if pairs.len() != PAIR_BYTES {
+        return refuse(BAD_PAIRS, 0);
+    }
+    Cause::Allowed
 }
 
 // Whether range b after range a is suspicious.

@@ -1,4 +1,2 @@
 pub mod Host
-pub mod HostLaws
 pub mod Matches
-pub mod MatchesLaws

@@ -1,12 +1,18 @@
--- A lent list of matches after a call (01, "Layers and rankings"): "matches are put into a lent list of match entries, at least one per language
--- record; the rest stays"; and a refusal "changes nothing lent". Not here: the matches and the causes (crate cd). Laws: MatchesLaws.
+-- What a ranking call answers at the host's boundary: ACCEPTED, 0 and how many matches there are, or the number and place of the refusal and 0. The lent
+-- list after the call is base's `lentAfter`: "matches are put into a lent list of match entries, at least one per language record; the rest stays"
+-- (01, "Layers and rankings"), and a refusal "changes nothing lent". Not here: the matches and the causes (crate cd). Laws: proofs/Laws/Matches.
 -- Assumes nothing.
-use mathlib.Core.List.{List, _++_}
-use lib.ListN.{length, drop}
-use Rattle.ranking.specs.declared.CoherenceMatch.{CoherenceMatch}
-use Rattle.cd.specs.declared.Cause.{Cause}
-use Rattle.cd.specs.declared.Cause.the-variants.{Allowed, Refused}
+use mathlib.Core.List.{List}
+use lib.ListN.{length}
+use Rattle.base.specs.declared.Cause.{Cause}
+use Rattle.base.specs.Counted.{countUnless, values}
+use Rattle.cd_ranking.specs.declared.CoherenceMatch.{CoherenceMatch}
+use Rattle.cd_list.specs.declared.HostRanking.{HostRanking}
 
-unfoldable pub matchesAfter : Cause → List CoherenceMatch → List CoherenceMatch → List CoherenceMatch
-matchesAfter Allowed matches out = matches ++ drop (length matches) out
-matchesAfter (Refused r) matches out = out
+unfoldable pub hostRanking : Cause → List CoherenceMatch → HostRanking
+hostRanking c matches =
+    record {
+      number = values (countUnless c (length matches)) .number;
+      place = values (countUnless c (length matches)) .place;
+      count = values (countUnless c (length matches)) .count;
+    }

@@ -1,43 +1,26 @@
 // The flat form of each answer: no enum crosses to a host.
 ghost use mathlib.Core.Path.{_≡_};
-ghost use Rattle.host.specs.Host.{hostChecked, hostRead, hostScore, hostVerdict};
+ghost use Rattle.host.specs.Host.{hostCounted, hostScore, hostVerdict};
 use crate::HostRead;
 use crate::HostScore;
 use crate::HostVerdict;
-use bits::one;
-use bits::refusals::ACCEPTED;
-use chooser::Judged;
-use classes::Checked;
+use base::Counted;
+use base::one;
+use base::refusals::ACCEPTED;
 use md::Scored;
-use utf8::Read;
+use md_chooser::Judged;
+use ratio::rounding::no_ratios;
 
-pub fn flat_checked(checked: Checked) -> HostRead
-    ensures { λ r. ⌜ r ≡ hostChecked checked ⌝ }
+pub fn flat_counted(counted: Counted) -> HostRead
+    ensures { λ r. ⌜ r ≡ hostCounted counted ⌝ }
 {
-    match checked {
-        Checked::Refused(r) => HostRead {
+    match counted {
+        Counted::Refused(r) => HostRead {
             number: r.number,
             place: r.place,
             count: 0,
         },
-        Checked::Good(count) => HostRead {
-            number: ACCEPTED,
-            place: 0,
-            count: count,
-        },
-    }
-}
-
-pub fn flat_read(read: Read) -> HostRead
-    ensures { λ r. ⌜ r ≡ hostRead read ⌝ }
-{
-    match read {
-        Read::Refused(r) => HostRead {
-            number: r.number,
-            place: r.place,
-            count: 0,
-        },
-        Read::Count(count) => HostRead {
+        Counted::Count(count) => HostRead {
             number: ACCEPTED,
             place: 0,
             count: count,
@@ -52,33 +35,22 @@ pub fn flat_scored(scored: Scored) -> HostScore
         Scored::Refused(r) => HostScore {
             number: r.number,
             place: r.place,
-            symbols: 0.0,
-            accents: 0.0,
-            unprintable: 0.0,
-            ranges: 0.0,
-            doubled: 0.0,
-            words: 0.0,
-            stops: 0.0,
-            archaic: 0.0,
+            ratios: no_ratios(),
             sum: 0.0,
             fed: 0,
             stopped: 0,
         },
-        Scored::Score(s) => HostScore {
-            number: ACCEPTED,
-            place: 0,
-            symbols: s.ratios.symbols,
-            accents: s.ratios.accents,
-            unprintable: s.ratios.unprintable,
-            ranges: s.ratios.ranges,
-            doubled: s.ratios.doubled,
-            words: s.ratios.words,
-            stops: s.ratios.stops,
-            archaic: s.ratios.archaic,
-            sum: s.sum,
-            fed: s.fed,
-            stopped: one(s.stopped),
-        },
+        Scored::Score(s) => {
+            let ratios = s.ratios;
+            HostScore {
+                number: ACCEPTED,
+                place: 0,
+                ratios,
+                sum: s.sum,
+                fed: s.fed,
+                stopped: one(s.stopped),
+            }
+        }
     }
 }
 

@@ -2,23 +2,23 @@
 // its answer; a ranking's matches are put into a lent list.
 ghost use mathlib.Core.Path.{_≡_};
 ghost use lib.ListN.{length};
+ghost use Rattle.base.specs.Counted.{lentAfter};
 ghost use Rattle.classes.specs.Check.{checked};
 ghost use Rattle.utf8.specs.Answer.{answer, outAfter};
 ghost use Rattle.md.specs.MessRatio.{messRatio, messRatioDefault};
-ghost use Rattle.lines.specs.ScoreUtf8.{messRatioUtf8, messRatioUtf8Default};
-ghost use Rattle.burst.specs.Burst as bursts;
-ghost use Rattle.chooser.specs.Choose.{verdictOf};
+ghost use Rattle.md_utf8.specs.ScoreUtf8.{messRatioUtf8, messRatioUtf8Default};
+ghost use Rattle.md_lines.specs.Burst as bursts;
+ghost use Rattle.md_chooser.specs.Choose.{verdictOf};
 ghost use Rattle.cd.specs.Causes.{causes, causesDefault};
-ghost use Rattle.cd.specs.Coherence.{DEFAULT-THRESHOLD, coherenceRatio, coherenceRatioDefault, matchesOf, workAfter};
-ghost use Rattle.lent.specs.Lent.{answerOf};
-ghost use Rattle.host.specs.Host.{hostChecked, hostRead, hostScore, hostVerdict};
-ghost use Rattle.host.specs.Matches.{matchesAfter};
-use flat::flat_checked;
+ghost use Rattle.cd.specs.Coherence.{DEFAULT-THRESHOLD, matchesOf, workAfter};
+ghost use Rattle.host.specs.Host.{hostCounted, hostScore, hostVerdict};
+ghost use Rattle.host.specs.Matches.{hostRanking};
+use cd_list::HostRanking;
+use cd_ranking::CoherenceMatch;
+use flat::flat_counted;
 use flat::flat_judged;
-use flat::flat_read;
 use flat::flat_scored;
-use lent::HostRanking;
-use ranking::CoherenceMatch;
+use ratio::Ratios;
 
 mod flat;
 
@@ -36,14 +36,7 @@ pub struct HostRead {
 pub struct HostScore {
     pub number: u32,
     pub place: u32,
-    pub symbols: f32,
-    pub accents: f32,
-    pub unprintable: f32,
-    pub ranges: f32,
-    pub doubled: f32,
-    pub words: f32,
-    pub stops: f32,
-    pub archaic: f32,
+    pub ratios: Ratios,
     pub sum: f32,
     pub fed: u32,
     pub stopped: u32,
@@ -61,18 +54,18 @@ pub struct HostVerdict {
 // Whether a class table is good: the number of its records, or refusal 5 and its place.
 #[no_mangle]
 pub extern "C" fn drasumira_check_classes(classes: &[u8]) -> HostRead
-    ensures { λ r. ⌜ r ≡ hostChecked (checked (now (classes .entry))) ⌝ }
+    ensures { λ r. ⌜ r ≡ hostCounted (checked (now (classes .entry))) ⌝ }
 {
-    flat_checked(classes::check_classes(classes))
+    flat_counted(classes::check_classes(classes))
 }
 
 // The code points of UTF-8 bytes, into the first places of out.
 #[no_mangle]
 pub extern "C" fn drasumira_read(bytes: &[u8], out: &mut [u32]) -> HostRead
-    ensures { λ r. ⌜ r ≡ hostRead (answer (now (bytes .entry)) (length (now (out .entry)))) ⌝ }
+    ensures { λ r. ⌜ r ≡ hostCounted (answer (now (bytes .entry)) (length (now (out .entry)))) ⌝ }
     ensures { λ _. ⌜ now (out .exit) ≡ outAfter (now (bytes .entry)) (now (out .entry)) ⌝ }
 {
-    flat_read(utf8::read_utf8(bytes, out))
+    flat_counted(utf8::read_utf8(bytes, out))
 }
 
 // The mess ratio of a text.
@@ -106,7 +99,7 @@ pub extern "C" fn drasumira_score_utf8(
 ) -> HostScore
     ensures { λ r. ⌜ r ≡ hostScore (messRatioUtf8 (now (text .entry)) threshold (now (classes .entry)) (now (pairs .entry))) ⌝ }
 {
-    flat_scored(lines::mess_ratio_utf8(text, threshold, classes, pairs))
+    flat_scored(md_utf8::mess_ratio_utf8(text, threshold, classes, pairs))
 }
 
 // The same at the default threshold.
@@ -118,7 +111,7 @@ pub extern "C" fn drasumira_score_utf8_default(
 ) -> HostScore
     ensures { λ r. ⌜ r ≡ hostScore (messRatioUtf8Default (now (text .entry)) (now (classes .entry)) (now (pairs .entry))) ⌝ }
 {
-    flat_scored(lines::mess_ratio_utf8_default(text, classes, pairs))
+    flat_scored(md_utf8::mess_ratio_utf8_default(text, classes, pairs))
 }
 
 // The mess ratios of many lines, each line's thirteen numbers in its place in out: HostScore's, floats as bits. The tables are checked once.
@@ -130,10 +123,10 @@ pub extern "C" fn drasumira_score_lines(
     pairs: &[u8],
     out: &mut [u32],
 ) -> HostRead
-    ensures { λ r. ⌜ r ≡ hostRead (bursts.answer (now (bytes .entry)) threshold (now (classes .entry)) (now (pairs .entry)) (length (now (out .entry)))) ⌝ }
+    ensures { λ r. ⌜ r ≡ hostCounted (bursts.answer (now (bytes .entry)) threshold (now (classes .entry)) (now (pairs .entry)) (length (now (out .entry)))) ⌝ }
     ensures { λ _. ⌜ now (out .exit) ≡ bursts.outAfter (now (bytes .entry)) threshold (now (classes .entry)) (now (pairs .entry)) (now (out .entry)) ⌝ }
 {
-    flat_read(burst::score_lines(bytes, threshold, classes, pairs, out))
+    flat_counted(md_lines::score_lines(bytes, threshold, classes, pairs, out))
 }
 
 // Which of two texts is the more readable, or which was refused.
@@ -146,7 +139,7 @@ pub extern "C" fn drasumira_verdict(
 ) -> HostVerdict
     ensures { λ r. ⌜ r ≡ hostVerdict (verdictOf (now (first .entry)) (now (second .entry)) (now (classes .entry)) (now (pairs .entry))) ⌝ }
 {
-    flat_judged(chooser::verdict(first, second, classes, pairs))
+    flat_judged(md_chooser::verdict(first, second, classes, pairs))
 }
 
 // The ranking of a text's languages, into the first entries of matches. The work area is 4 words a code point, zero after acceptance. A refusal
@@ -163,9 +156,9 @@ pub extern "C" fn drasumira_coherence(
     work: &mut [u32],
     matches: &mut [CoherenceMatch],
 ) -> HostRanking
-    ensures { λ a. ⌜ a ≡ answerOf (coherenceRatio (now (text .entry)) threshold small (now (classes .entry)) (now (pairs .entry)) (now (languages .entry)) (now (included .entry)) (length (now (work .entry))) (length (now (matches .entry)))) ⌝ }
+    ensures { λ a. ⌜ a ≡ hostRanking (causes (now (text .entry)) threshold (now (classes .entry)) (now (pairs .entry)) (now (languages .entry)) (now (included .entry)) (length (now (work .entry))) (length (now (matches .entry)))) (matchesOf (now (text .entry)) threshold small (now (classes .entry)) (now (pairs .entry)) (now (languages .entry)) (now (included .entry))) ⌝ }
     ensures { λ _. ⌜ now (work .exit) ≡ workAfter (causes (now (text .entry)) threshold (now (classes .entry)) (now (pairs .entry)) (now (languages .entry)) (now (included .entry)) (length (now (work .entry))) (length (now (matches .entry)))) (now (text .entry)) (now (work .entry)) ⌝ }
-    ensures { λ _. ⌜ now (matches .exit) ≡ matchesAfter (causes (now (text .entry)) threshold (now (classes .entry)) (now (pairs .entry)) (now (languages .entry)) (now (included .entry)) (length (now (work .entry))) (length (now (matches .entry)))) (matchesOf (now (text .entry)) threshold small (now (classes .entry)) (now (pairs .entry)) (now (languages .entry)) (now (included .entry))) (now (matches .entry)) ⌝ }
+    ensures { λ _. ⌜ now (matches .exit) ≡ lentAfter (causes (now (text .entry)) threshold (now (classes .entry)) (now (pairs .entry)) (now (languages .entry)) (now (included .entry)) (length (now (work .entry))) (length (now (matches .entry)))) (matchesOf (now (text .entry)) threshold small (now (classes .entry)) (now (pairs .entry)) (now (languages .entry)) (now (included .entry))) (now (matches .entry)) ⌝ }
 {
     let r = cd::coherence_ratio(
         text,
@@ -178,7 +171,7 @@ pub extern "C" fn drasumira_coherence(
         work,
         matches.len(),
     );
-    lent::put(matches, r)
+    cd_list::put(matches, r)
 }
 
 // The same at the default threshold.
@@ -193,9 +186,9 @@ pub extern "C" fn drasumira_coherence_default(
     work: &mut [u32],
     matches: &mut [CoherenceMatch],
 ) -> HostRanking
-    ensures { λ a. ⌜ a ≡ answerOf (coherenceRatioDefault (now (text .entry)) small (now (classes .entry)) (now (pairs .entry)) (now (languages .entry)) (now (included .entry)) (length (now (work .entry))) (length (now (matches .entry)))) ⌝ }
+    ensures { λ a. ⌜ a ≡ hostRanking (causesDefault (now (text .entry)) (now (classes .entry)) (now (pairs .entry)) (now (languages .entry)) (now (included .entry)) (length (now (work .entry))) (length (now (matches .entry)))) (matchesOf (now (text .entry)) DEFAULT-THRESHOLD small (now (classes .entry)) (now (pairs .entry)) (now (languages .entry)) (now (included .entry))) ⌝ }
     ensures { λ _. ⌜ now (work .exit) ≡ workAfter (causesDefault (now (text .entry)) (now (classes .entry)) (now (pairs .entry)) (now (languages .entry)) (now (included .entry)) (length (now (work .entry))) (length (now (matches .entry)))) (now (text .entry)) (now (work .entry)) ⌝ }
-    ensures { λ _. ⌜ now (matches .exit) ≡ matchesAfter (causesDefault (now (text .entry)) (now (classes .entry)) (now (pairs .entry)) (now (languages .entry)) (now (included .entry)) (length (now (work .entry))) (length (now (matches .entry)))) (matchesOf (now (text .entry)) DEFAULT-THRESHOLD small (now (classes .entry)) (now (pairs .entry)) (now (languages .entry)) (now (included .entry))) (now (matches .entry)) ⌝ }
+    ensures { λ _. ⌜ now (matches .exit) ≡ lentAfter (causesDefault (now (text .entry)) (now (classes .entry)) (now (pairs .entry)) (now (languages .entry)) (now (included .entry)) (length (now (work .entry))) (length (now (matches .entry)))) (matchesOf (now (text .entry)) DEFAULT-THRESHOLD small (now (classes .entry)) (now (pairs .entry)) (now (languages .entry)) (now (included .entry))) (now (matches .entry)) ⌝ }
 {
     drasumira_coherence(
         text,

@@ -1,10 +1,6 @@
 pub mod Text
 pub mod Scan
 pub mod MessRatio
-pub mod ScanLaws
-pub mod Going
-pub mod MessRatioLaws
-pub mod Accepted
 pub mod DemandThree
 pub mod Values
-pub mod Plain
+pub mod Inner

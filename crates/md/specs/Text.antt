@@ -5,15 +5,15 @@ use mathlib.Core.Bool.{Bool, cond}
 use mathlib.Core.List.{List}
 use lib.Dec.{leb, eqb}
 use lib.ListN.{length, getD}
-use Rattle.bits.specs.Limits.{NEWLINE}
+use Rattle.base.specs.Limits.{NEWLINE}
 
 -- the character at i: behind the text stands the newline
 abbrev pub charAt : List ℕ → ℕ → ℕ
 charAt text i = getD text i NEWLINE
 
 -- how many characters there are, the newline counted
-abbrev pub count : List ℕ → ℕ
-count text = length text + 1
+abbrev pub total : List ℕ → ℕ
+total text = length text + 1
 
 abbrev pub SHORT-LENGTH : ℕ
 SHORT-LENGTH = 510

@@ -4,9 +4,10 @@
 -- Assumes nothing.
 use Prim.Native.Nat.{ℕ}
 use mathlib.Core.Bool.{Bool, false}
-use lib.Ieee.{Float, ofBits, binary32}
-use Rattle.bits.specs.Refusals.{ACCEPTED}
+use lib.Ieee.{Float}
+use Rattle.base.specs.Refusals.{ACCEPTED}
 use Rattle.ratio.specs.declared.Ratios.{Ratios}
+use Rattle.ratio.specs.Rounded.{ZERO, noRatios}
 use Rattle.md.specs.declared.Scored.{Scored}
 use Rattle.md.specs.declared.Scored.the-variants.{Score, Refused}
 
@@ -17,23 +18,6 @@ pub record Values : Type 0 where
   pub sum : Float
   pub fed : ℕ
   pub stopped : Bool
-
--- +0.0
-abbrev pub ZERO : Float
-ZERO = ofBits binary32 0
-
-abbrev pub noRatios : Ratios
-noRatios =
-    record {
-      symbols = ZERO;
-      accents = ZERO;
-      unprintable = ZERO;
-      ranges = ZERO;
-      doubled = ZERO;
-      words = ZERO;
-      stops = ZERO;
-      archaic = ZERO;
-    }
 
 unfoldable pub values : Scored → Values
 values (Score s) = record { number = ACCEPTED; place = 0; ratios = s .ratios; sum = s .sum; fed = s .fed; stopped = s .stopped }

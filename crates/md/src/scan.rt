@@ -3,28 +3,33 @@ ghost use mathlib.Core.Path.{_≡_};
 ghost use mathlib.Core.Bool.{true, _&&_};
 ghost use Prim.Native.Nat.{_+_, _≤_, _<_};
 ghost use lib.ListN.{length};
-ghost use Rattle.bits.specs.First.{firstFrom};
-ghost use Rattle.bits.specs.Limits.{LONGEST-TEXT, LAST-RANGE, PAIR-BYTES};
-ghost use Rattle.builtin.specs.Words.{packedWords};
-ghost use Rattle.records.specs.Records.{goodTable};
-ghost use Rattle.plugins.specs.Detectors as detectors;
-ghost use Rattle.md.specs.Text.{checkpoint, count};
+ghost use Rattle.base.specs.Inner.First.{firstFrom};
+ghost use Rattle.base.specs.Limits.{LONGEST-TEXT, LAST-RANGE, PAIR-BYTES};
+ghost use Rattle.class_builtin.specs.Inner.Words.{packedWords};
+ghost use Rattle.class_records.specs.Records.{goodTable};
+ghost use Rattle.classes.specs.Inner.Tables.{Tables};
+ghost use Rattle.md_eight.specs.Inner.Detectors as detectors;
+ghost use Rattle.md_eight.specs.Detectors.{lastRange};
+ghost use Rattle.md.specs.Text.{checkpoint, total};
 ghost use Rattle.md.specs.Scan as scans;
-ghost use Rattle.md.specs.Going as going;
+ghost use Rattle.md.specs.Inner.Scan.{scan};
+ghost use Rattle.md.specs.Inner.Going as going;
+ghost use Rattle.md.specs.Inner.Ready.{Ready};
 use crate::Limit;
 use crate::Score;
 use crate::Scored;
 use crate::refuse;
 use crate::text::at_checkpoint;
 use crate::text::char_at;
-use bits::refusals::UNCLASSED;
+use base::refusals::UNCLASSED;
+use class_builtin::Table;
 use classes::Class;
 use classes::Found;
-use plugins::Detectors;
+use md_eight::Detectors;
 use ratio::rounding;
 
 // What the lookup finds for the character at i, the built-in table being lent.
-fn class_at(text: &[u32], i: usize, table: &[u64; 592], classes: &[u8]) -> Found
+fn class_at(text: &[u32], i: usize, table: &Table, classes: &[u8]) -> Found
     requires { ⌜ (goodTable (now classes) ≡ true) × (now table ≡ packedWords) ⌝ }
     ensures { λ r. ⌜ r ≡ scans.classAt (now (classes .entry)) (now (text .entry)) i ⌝ }
 {
@@ -33,7 +38,7 @@ fn class_at(text: &[u32], i: usize, table: &[u64; 592], classes: &[u8]) -> Found
 
 // One character, fed to the eight, with the pair table's bit for its range after the last one.
 fn fed(s: Detectors, c: Class, pairs: &[u8]) -> Detectors
-    requires { ⌜ detectors.Room s × (length (now pairs) ≡ PAIR-BYTES) × (detectors.lastRange s ≤ LAST-RANGE) × (c .range ≤ LAST-RANGE) ⌝ }
+    requires { ⌜ detectors.Room s × (length (now pairs) ≡ PAIR-BYTES) × (lastRange s ≤ LAST-RANGE) × (c .range ≤ LAST-RANGE) ⌝ }
     ensures { λ r. ⌜ r ≡ scans.fed (now (pairs .entry)) s c ⌝ }
 {
     let suspicious = classes::is_suspicious(pairs, s.last_range(), c.range);
@@ -41,7 +46,7 @@ fn fed(s: Detectors, c: Class, pairs: &[u8]) -> Detectors
 }
 
 fn sum_of(s: Detectors) -> f32
-    requires { ⌜ scans.Countable s ⌝ }
+    requires { ⌜ detectors.Countable s ⌝ }
     ensures { λ r. ⌜ r ≡ scans.sumOf s ⌝ }
 {
     rounding::sum(s.ratios())
@@ -59,7 +64,7 @@ fn reaches(limit: Limit, sum: f32) -> bool
 
 // Whether the scan stops after the character at i, in a text of n characters.
 fn is_over(s: Detectors, n: usize, i: usize, limit: Limit) -> bool
-    requires { ⌜ scans.Countable s ⌝ }
+    requires { ⌜ detectors.Countable s ⌝ }
     ensures { λ r. ⌜ r ≡ (checkpoint n i && scans.reaches limit (scans.sumOf s)) ⌝ }
 {
     if at_checkpoint(n, i) {
@@ -70,7 +75,7 @@ fn is_over(s: Detectors, n: usize, i: usize, limit: Limit) -> bool
 
 // The answer after `fed` characters.
 fn scored(s: Detectors, fed: u32, stopped: bool) -> Scored
-    requires { ⌜ scans.Countable s ⌝ }
+    requires { ⌜ detectors.Countable s ⌝ }
     ensures { λ r. ⌜ r ≡ scans.scored s fed stopped ⌝ }
 {
     let ratios = s.ratios();
@@ -83,9 +88,9 @@ fn scored(s: Detectors, fed: u32, stopped: bool) -> Scored
 }
 
 // The first index from `from` on whose character has no class, or the number of characters, the newline counted.
-fn unclassed_from(text: &[u32], from: usize, table: &[u64; 592], classes: &[u8]) -> usize
-    requires { ⌜ (goodTable (now classes) ≡ true) × (length (now text) ≤ LONGEST-TEXT) × (from ≤ count (now text)) × (now table ≡ packedWords) ⌝ }
-    ensures { λ r. ⌜ r ≡ firstFrom (scans.unclassed (now (classes .entry)) (now (text .entry))) (count (now (text .entry))) from ⌝ }
+fn unclassed_from(text: &[u32], from: usize, table: &Table, classes: &[u8]) -> usize
+    requires { ⌜ (goodTable (now classes) ≡ true) × (length (now text) ≤ LONGEST-TEXT) × (from ≤ total (now text)) × (now table ≡ packedWords) ⌝ }
+    ensures { λ r. ⌜ r ≡ firstFrom (scans.unclassed (now (classes .entry)) (now (text .entry))) (total (now (text .entry))) from ⌝ }
 {
     let n = text.len() + 1;
     let mut i = from;
@@ -99,8 +104,8 @@ fn unclassed_from(text: &[u32], from: usize, table: &[u64; 592], classes: &[u8])
 }
 
 // The answer of a scan that stops after the character at i. The whole text is classed, past the stop too.
-fn stopped_after(s: Detectors, text: &[u32], i: usize, table: &[u64; 592], classes: &[u8]) -> Scored
-    requires { ⌜ (goodTable (now classes) ≡ true) × (length (now text) ≤ LONGEST-TEXT) × (i < count (now text)) × scans.Countable s × (now table ≡ packedWords) ⌝ }
+fn stopped_after(s: Detectors, text: &[u32], i: usize, table: &Table, classes: &[u8]) -> Scored
+    requires { ⌜ (goodTable (now classes) ≡ true) × (length (now text) ≤ LONGEST-TEXT) × (i < total (now text)) × detectors.Countable s × (now table ≡ packedWords) ⌝ }
     ensures { λ r. ⌜ r ≡ going.stoppedAfter (now (classes .entry)) (now (text .entry)) s i ⌝ }
 {
     let bad = unclassed_from(text, i + 1, table, classes);
@@ -114,12 +119,12 @@ fn stopped_after(s: Detectors, text: &[u32], i: usize, table: &[u64; 592], class
 pub fn scan_text_in(
     text: &[u32],
     limit: Limit,
-    table: &[u64; 592],
+    table: &Table,
     classes: &[u8],
     pairs: &[u8],
 ) -> Scored
-    requires { ⌜ scans.Ready (now classes) (now pairs) (now text) × (now table ≡ packedWords) ⌝ }
-    ensures { λ r. ⌜ r ≡ scans.scan (now (classes .entry)) (now (pairs .entry)) (now (text .entry)) limit ⌝ }
+    requires { ⌜ Ready (now table) (now classes) (now pairs) (now text) ⌝ }
+    ensures { λ r. ⌜ r ≡ scan (now (classes .entry)) (now (pairs .entry)) (now (text .entry)) limit ⌝ }
 {
     let n = text.len() + 1;
     let mut s = Detectors::start();
@@ -139,9 +144,9 @@ pub fn scan_text_in(
 
 // The same for one text.
 pub fn scan_text(text: &[u32], limit: Limit, classes: &[u8], pairs: &[u8]) -> Scored
-    requires { ⌜ scans.Ready (now classes) (now pairs) (now text) ⌝ }
-    ensures { λ r. ⌜ r ≡ scans.scan (now (classes .entry)) (now (pairs .entry)) (now (text .entry)) limit ⌝ }
+    requires { ⌜ Tables (now classes) (now pairs) × (length (now text) ≤ LONGEST-TEXT) ⌝ }
+    ensures { λ r. ⌜ r ≡ scan (now (classes .entry)) (now (pairs .entry)) (now (text .entry)) limit ⌝ }
 {
-    let table = builtin::table();
+    let table = class_builtin::table();
     scan_text_in(text, limit, &table, classes, pairs)
 }

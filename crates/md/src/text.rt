@@ -2,7 +2,7 @@
 ghost use mathlib.Core.Path.{_≡_};
 ghost use lib.ListN.{length};
 ghost use Rattle.md.specs.Text.{charAt, checkpoint};
-use bits::limits::NEWLINE;
+use base::limits::NEWLINE;
 
 // Up to this many characters SHORT_PERIOD is used, then up to MIDDLE_LENGTH MIDDLE_PERIOD, else LONG_PERIOD.
 const SHORT_LENGTH: usize = 510;

@@ -1,14 +1,14 @@
 -- Demand 3 (01, "Promises with no slack": "Demand 3 is stated in whole numbers: a finite f32 is a signed whole number of parts of 2^-149,
 -- a fraction is its two counts (0 over 1 if cut off or over 0), and each inequality is multiplied out by 2^149 and the eight
 -- denominators"). E is the exact mess value, the sum of the eight fractions; s is the score and t the threshold, both finite f32. Which
--- fractions a text has is said elsewhere. That the sum of the rounded ratios meets the three inequalities is proved in DemandLaws.
+-- fractions a text has is said elsewhere. That the sum of the rounded ratios meets the three inequalities is proved in proofs/Laws/Demand.
 -- Assumes nothing.
 use Prim.Native.Nat.{ℕ, _+_, _-_, _*_, _/_, _^_, _≤_}
 use mathlib.Core.Bool.{Bool, cond}
 use lib.IntN.{ℤ, pos, negℤ, natAbs, _*ℤ_, _-ℤ_}
 use lib.Signed.{_≤ℤ_, _<ℤ_}
 use lib.Ieee.{Float, nan, inf, fin, up, down}
-use Rattle.ratio.specs.declared.Fractions.{Fractions}
+use Rattle.ratio.specs.Eight.{Fractions}
 
 -- one is so many parts
 abbrev pub ONE : ℕ

@@ -1,12 +1,13 @@
--- Ratios and their sum (01, "Eight detectors": "The score answer holds eight ratios and their sum as f32, added in order, each operation
--- rounded once"). Which fractions a text has is said elsewhere. The laws stand in RoundedLaws.
+-- Ratios, their sum and their bits (01, "Eight detectors": "The score answer holds eight ratios and their sum as f32, added in order, each
+-- operation rounded once"; a refusal's are +0.0). Which fractions a text has is said elsewhere. The laws stand in proofs/Laws/Rounded.
 -- Assumes nothing.
+use Prim.Native.Nat.{ℕ}
 use mathlib.Core.Bool.{false}
-use lib.Ieee.{Float, binary32, round, add}
+use mathlib.Core.List.{List, map}
+use lib.Ieee.{Float, binary32, round, add, ofBits, toBits}
 use Rattle.ratio.specs.declared.Fraction.{Fraction}
-use Rattle.ratio.specs.declared.Fractions.{Fractions}
 use Rattle.ratio.specs.declared.Ratios.{Ratios}
-use Rattle.ratio.specs.Fraction.{Proper}
+use Rattle.ratio.specs.Eight.{Fractions, listRatios}
 
 -- the f32 of a fraction: the exact quotient, rounded once
 unfoldable pub rounded : Fraction → Float
@@ -24,8 +25,8 @@ ratios f = record {
   archaic = rounded (f .archaic);
 }
 
--- two f32 added, rounded once
 infixl 60 _⊕_
+-- two f32 added, rounded once
 abbrev pub _⊕_ : Float → Float → Float
 x ⊕ y = add binary32 x y
 
@@ -33,13 +34,25 @@ x ⊕ y = add binary32 x y
 unfoldable pub sum : Ratios → Float
 sum r = r .symbols ⊕ r .accents ⊕ r .unprintable ⊕ r .ranges ⊕ r .doubled ⊕ r .words ⊕ r .stops ⊕ r .archaic
 
--- all eight are within their bounds and not over 0
-pub record EachProper (f : Fractions) : Type 0 where
-  pub symbols : Proper (f .symbols)
-  pub accents : Proper (f .accents)
-  pub unprintable : Proper (f .unprintable)
-  pub ranges : Proper (f .ranges)
-  pub doubled : Proper (f .doubled)
-  pub words : Proper (f .words)
-  pub stops : Proper (f .stops)
-  pub archaic : Proper (f .archaic)
+-- +0.0, and eight of them: what a refusal gives
+abbrev pub ZERO : Float
+ZERO = ofBits binary32 0
+
+abbrev pub noRatios : Ratios
+noRatios = record {
+  symbols = ZERO;
+  accents = ZERO;
+  unprintable = ZERO;
+  ranges = ZERO;
+  doubled = ZERO;
+  words = ZERO;
+  stops = ZERO;
+  archaic = ZERO;
+}
+
+-- a float as a number
+abbrev pub bitsOf : Float → ℕ
+bitsOf x = toBits binary32 x
+
+unfoldable pub bits : Ratios → List ℕ
+bits r = map bitsOf (listRatios r)

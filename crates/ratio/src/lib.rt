@@ -1,30 +1,42 @@
-// A fraction of counts: kept or cut off, and compared with a cut-off.
+// A detector's counts, and the fraction and the ratio that are made of them: here, once for all eight.
 ghost use mathlib.Core.Path.{_≡_};
 ghost use Prim.Native.Nat.{_≤_};
-ghost use Rattle.ratio.specs.Fraction.{MOST-TERM, Small, atLeast, kept};
+ghost use Rattle.ratio.specs.Inner.Fraction.{MOST-TERM, Small};
+ghost use Rattle.ratio.specs.Fraction.{atLeast, countsOf, fractionOf};
 
 pub mod finite;
 pub mod rounding;
 
-// Two counts, `num` over `den`. What a detector answers is 0 over 1 where it is cut off or over 0.
+// How many detectors there are.
+pub const DETECTORS: usize = 8;
+
+// Two counts, `num` over `den`.
 pub struct Fraction {
     pub num: u32,
     pub den: u32,
 }
 
-// The eight detectors' fractions, in md.rs's order.
-pub struct Fractions {
-    pub symbols: Fraction,
-    pub accents: Fraction,
-    pub unprintable: Fraction,
-    pub ranges: Fraction,
-    pub doubled: Fraction,
-    pub words: Fraction,
-    pub stops: Fraction,
-    pub archaic: Fraction,
+// What a detector answers: its two counts, the factor of 8 or 2 included, and whether no cut-off applies.
+pub struct Counts {
+    pub numerator: u32,
+    pub denominator: u32,
+    pub kept: bool,
 }
 
-// The eight detectors' ratios, in md.rs's order.
+// The eight detectors' counts, in md.rs's order.
+pub struct EightCounts {
+    pub symbols: Counts,
+    pub accents: Counts,
+    pub unprintable: Counts,
+    pub ranges: Counts,
+    pub doubled: Counts,
+    pub words: Counts,
+    pub stops: Counts,
+    pub archaic: Counts,
+}
+
+// The eight detectors' ratios, in md.rs's order. They cross to a host as they stand.
+#[repr(C)]
 pub struct Ratios {
     pub symbols: f32,
     pub accents: f32,
@@ -36,12 +48,26 @@ pub struct Ratios {
     pub archaic: f32,
 }
 
-// The fraction where the test holds and it is not over 0, else 0 over 1.
-pub fn kept(keep: bool, f: Fraction) -> Fraction
-    ensures { λ r. ⌜ r ≡ kept keep f ⌝ }
+// The counts of a fraction, and whether no cut-off applies.
+pub fn counts_of(f: Fraction, kept: bool) -> Counts
+    ensures { λ r. ⌜ r ≡ countsOf f kept ⌝ }
 {
-    if keep & (f.den != 0) {
-        f
+    Counts {
+        numerator: f.num,
+        denominator: f.den,
+        kept,
+    }
+}
+
+// The fraction where it is kept and not over 0, else 0 over 1.
+pub fn fraction_of(c: Counts) -> Fraction
+    ensures { λ r. ⌜ r ≡ fractionOf c ⌝ }
+{
+    if c.kept & (c.denominator != 0) {
+        Fraction {
+            num: c.numerator,
+            den: c.denominator,
+        }
     } else {
         Fraction { num: 0, den: 1 }
     }

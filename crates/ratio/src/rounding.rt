@@ -1,10 +1,16 @@
-// Fractions made f32 ratios, and the ratios added: each operation rounded once.
+// Counts made f32 ratios, the ratios added, each operation rounded once, and their bits.
 ghost use mathlib.Core.Path.{_≡_};
-ghost use Rattle.ratio.specs.Fraction.{Proper};
-ghost use Rattle.ratio.specs.Rounded.{EachProper, rounded, ratios, sum};
+ghost use Rattle.ratio.specs.Inner.Fraction.{Proper, Small};
+ghost use Rattle.ratio.specs.Fraction.{shareOf, fractionOf};
+ghost use Rattle.ratio.specs.Inner.Rounded.{EachSmall, EachPlain};
+ghost use Rattle.ratio.specs.Rounded.{rounded, ratios, noRatios, sum, bits};
+ghost use Rattle.ratio.specs.Eight.{fractionsOf};
+use super::Counts;
+use super::DETECTORS;
+use super::EightCounts;
 use super::Fraction;
-use super::Fractions;
 use super::Ratios;
+use super::fraction_of;
 
 // The f32 of a fraction. An f32 holds both counts, so that the quotient alone is rounded.
 pub fn rounded(f: Fraction) -> f32
@@ -14,20 +20,44 @@ pub fn rounded(f: Fraction) -> f32
     f.num as f32 / f.den as f32
 }
 
+// The ratio of a detector's counts.
+pub fn ratio_of(c: Counts) -> f32
+    requires { ⌜ Small (shareOf c) ⌝ }
+    ensures { λ r. ⌜ r ≡ rounded (fractionOf c) ⌝ }
+{
+    rounded(fraction_of(c))
+}
+
 // The eight ratios.
-pub fn ratios(f: Fractions) -> Ratios
-    requires { ⌜ EachProper f ⌝ }
-    ensures { λ r. ⌜ r ≡ ratios f ⌝ }
+pub fn ratios(c: EightCounts) -> Ratios
+    requires { ⌜ EachSmall c ⌝ }
+    ensures { λ r. ⌜ r ≡ ratios (fractionsOf c) ⌝ }
 {
     Ratios {
-        symbols: rounded(f.symbols),
-        accents: rounded(f.accents),
-        unprintable: rounded(f.unprintable),
-        ranges: rounded(f.ranges),
-        doubled: rounded(f.doubled),
-        words: rounded(f.words),
-        stops: rounded(f.stops),
-        archaic: rounded(f.archaic),
+        symbols: ratio_of(c.symbols),
+        accents: ratio_of(c.accents),
+        unprintable: ratio_of(c.unprintable),
+        ranges: ratio_of(c.ranges),
+        doubled: ratio_of(c.doubled),
+        words: ratio_of(c.words),
+        stops: ratio_of(c.stops),
+        archaic: ratio_of(c.archaic),
+    }
+}
+
+// The ratios of a refusal.
+pub fn no_ratios() -> Ratios
+    ensures { λ r. ⌜ r ≡ noRatios ⌝ }
+{
+    Ratios {
+        symbols: 0.0,
+        accents: 0.0,
+        unprintable: 0.0,
+        ranges: 0.0,
+        doubled: 0.0,
+        words: 0.0,
+        stops: 0.0,
+        archaic: 0.0,
     }
 }
 
@@ -36,4 +66,21 @@ pub fn sum(r: Ratios) -> f32
     ensures { λ s. ⌜ s ≡ sum r ⌝ }
 {
     r.symbols + r.accents + r.unprintable + r.ranges + r.doubled + r.words + r.stops + r.archaic
+}
+
+// The bits of the eight ratios, none of which is a NaN.
+pub fn bits(r: Ratios) -> [u32; DETECTORS]
+    requires { ⌜ EachPlain r ⌝ }
+    ensures { λ l. ⌜ l ≡ bits r ⌝ }
+{
+    [
+        f32::to_bits(r.symbols),
+        f32::to_bits(r.accents),
+        f32::to_bits(r.unprintable),
+        f32::to_bits(r.ranges),
+        f32::to_bits(r.doubled),
+        f32::to_bits(r.words),
+        f32::to_bits(r.stops),
+        f32::to_bits(r.archaic),
+    ]
 }

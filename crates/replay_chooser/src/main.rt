@@ -1,12 +1,17 @@
 // Replays verdicts on pairs of texts, and the parts that the chooser hands back (oracle/lists/chooser.py).
 ghost use Prim.Native.Nat.{_≤_};
 ghost use lib.ListN.{length};
-use bits::one;
-use bits::pick;
-use chooser::Judged;
-use chooser::choose;
-use chooser::verdict;
+use base::limits::CLASS_RECORD;
+use base::limits::MOST_CLASSES;
+use base::limits::PAIR_BYTES;
+use md_chooser::Judged;
+use md_chooser::choose;
+use md_chooser::verdict;
+use replay::WORD;
+use replay::first_case;
+use replay::least;
 use replay::next_case;
+use replay::read_case;
 use replay::say;
 use replay::word;
 use replay::words;
@@ -35,17 +40,14 @@ const FIRST: u32 = 1;
 
 const SECOND: u32 = 2;
 
-const WORD: usize = 4;
-
 const MOST_POINTS: usize = 1024;
 
-const MOST_CASES: u32 = 100000;
+const CASE_BYTES: usize = 8192;
 
-fn least(a: usize, b: usize) -> usize
-    ensures { λ r. ⌜ (r ≤ a) × (r ≤ b) ⌝ }
-{
-    if a < b { a } else { b }
-}
+// The most bytes of the class table at the list's front, and those of the pair table there, which has a word of 0 behind it.
+const CLASS_BYTES: usize = MOST_CLASSES * CLASS_RECORD;
+
+const PAIR_ROOM: usize = PAIR_BYTES + WORD;
 
 // Whether the verdict is that of the case.
 fn told(buf: &[u8], taken: u32, refused: u32, number: u32, place: u32) -> bool {
@@ -103,7 +105,7 @@ fn same_cut(texts: &[u32], k: usize, buf: &[u8], classes: &[u8], pairs: &[u8]) -
 }
 
 fn same_case(buf: &[u8], classes: &[u8], pairs: &[u8]) -> bool {
-    let mut text = [0u32; 1024];
+    let mut text = [0u32; MOST_POINTS];
     let all = buf.len() / WORD;
     if all < TEXTS_AT {
         return false;
@@ -121,27 +123,19 @@ fn same_case(buf: &[u8], classes: &[u8], pairs: &[u8]) -> bool {
 
 // The cases behind the two tables.
 fn replay_all(classes: &[u8], pairs: &[u8]) {
-    let mut buf = [0u8; 8192];
-    let mut cases: u32 = 0;
-    let mut differ: u32 = 0;
-    let mut first: u32 = 0;
-    while cases < MOST_CASES {
-        let n = next_case(&mut buf);
-        if n == 0 {
-            break;
-        }
-        cases += 1;
-        let wrong = !same_case(&buf[..n], classes, pairs);
-        first = pick(wrong & (differ == 0), cases, first);
-        differ += one(wrong);
+    let mut buf = [0u8; CASE_BYTES];
+    let mut t = first_case(&mut buf);
+    while t.size > 0 {
+        let same = same_case(&buf[..t.size], classes, pairs);
+        t = next_case(&mut buf, t, same);
     }
-    say(cases, differ, first);
+    say(t);
 }
 
 fn main() {
-    let mut classes = [0u8; 196608];
-    let mut pairs = [0u8; 32772];
-    let c = next_case(&mut classes);
-    let p = next_case(&mut pairs);
+    let mut classes = [0u8; CLASS_BYTES];
+    let mut pairs = [0u8; PAIR_ROOM];
+    let c = read_case(&mut classes);
+    let p = read_case(&mut pairs);
     replay_all(&classes[..c], &pairs[..p]);
 }

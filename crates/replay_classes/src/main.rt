@@ -4,21 +4,22 @@ ghost use mathlib.Core.Bool.{true};
 ghost use mathlib.Core.Path.{_≡_};
 ghost use Prim.Native.Nat.{_*_, _≤_};
 ghost use lib.ListN.{length};
-ghost use Rattle.bits.specs.Limits.{CLASS-RECORD, PAIR-BYTES};
-ghost use Rattle.records.specs.Records.{goodTable};
-use bits::limits::BUILTIN_END;
-use bits::limits::CLASS_RECORD;
-use bits::limits::LAST_RANGE;
-use bits::limits::PAIR_BYTES;
-use bits::one;
-use bits::pick;
-use bits::refusals::ACCEPTED;
-use classes::Checked;
+ghost use Rattle.base.specs.Limits.{CLASS-RECORD, PAIR-BYTES};
+ghost use Rattle.class_records.specs.Records.{goodTable};
+ghost use Rattle.replay_classes.specs.Inner.Sizes.{MOST-WORDS};
+use base::Counted;
+use base::limits::BUILTIN_END;
+use base::limits::CLASS_RECORD;
+use base::limits::LAST_RANGE;
+use base::limits::PAIR_BYTES;
+use base::one;
+use base::refusals::ACCEPTED;
 use classes::Found;
 use classes::check_classes;
 use classes::is_suspicious;
 use classes::look_up_in;
-use classes::pairs_fit;
+use replay::WORD;
+use replay::first_case;
 use replay::next_case;
 use replay::say;
 use replay::word;
@@ -31,8 +32,6 @@ const MADE: u32 = 2;
 const POINTS: u32 = 3;
 
 const PAIRS: u32 = 4;
-
-const WORD: usize = 4;
 
 // The bytes before a table in a case of the first kind, and in one of the third.
 const TABLE_AT: usize = 16;
@@ -49,14 +48,15 @@ const CASE_BYTES: usize = 262144;
 
 const MADE_BYTES: usize = 196632;
 
-const MOST_CASES: u32 = 100000;
+// More words than any case has.
+const MOST_WORDS: usize = 1000000;
 
 // Whether the check of a table says this.
 fn same_answer(table: &[u8], number: u32, place: u32, count: u32) -> bool {
     let c = check_classes(table);
     match c {
-        Checked::Good(n) => (number == ACCEPTED) & (place == 0) & (count == n),
-        Checked::Refused(r) => (number == r.number) & (place == r.place) & (count == 0),
+        Counted::Count(n) => (number == ACCEPTED) & (place == 0) & (count == n),
+        Counted::Refused(r) => (number == r.number) & (place == r.place) & (count == 0),
     }
 }
 
@@ -122,7 +122,7 @@ fn same_made(buf: &[u8], made: &mut [u8]) -> bool
 
 // Whether the words from `at` on say this of a code point.
 fn same_found(found: Found, buf: &[u8], at: usize) -> bool
-    requires { ⌜ at ≤ 1000000 ⌝ }
+    requires { ⌜ at ≤ MOST-WORDS ⌝ }
 {
     match found {
         Found::At(c) => {
@@ -141,10 +141,10 @@ fn same_found(found: Found, buf: &[u8], at: usize) -> bool
 fn same_classes(table: &[u8], buf: &[u8], from: usize) -> bool
     requires { ⌜ goodTable (now table) ≡ true ⌝ }
 {
-    let builtins = builtin::table();
+    let builtins = class_builtin::table();
     let mut same = true;
     let mut at = from;
-    while at < 1000000 {
+    while at < MOST_WORDS {
         if at >= buf.len() / WORD {
             break;
         }
@@ -161,7 +161,7 @@ fn same_points(buf: &[u8]) -> bool {
         return false;
     }
     let table = &buf[POINTS_AT..end];
-    let Checked::Good(_) = check_classes(table) else {
+    let Counted::Count(_) = check_classes(table) else {
         return false;
     };
     same_classes(table, buf, end / WORD)
@@ -169,7 +169,7 @@ fn same_points(buf: &[u8]) -> bool {
 
 // Whether each of n pairs of ranges has its bit.
 fn same_bits(pairs: &[u8], buf: &[u8], n: usize) -> bool
-    requires { ⌜ (length (now pairs) ≡ PAIR-BYTES) × (n ≤ 1000000) ⌝ }
+    requires { ⌜ (length (now pairs) ≡ PAIR-BYTES) × (n ≤ MOST-WORDS) ⌝ }
 {
     let mut same = true;
     let mut k = 0;
@@ -191,7 +191,7 @@ fn same_bits(pairs: &[u8], buf: &[u8], n: usize) -> bool
 
 fn same_pairs(buf: &[u8]) -> bool {
     let n = word(buf, 1) as usize;
-    if n > 1000000 {
+    if n > MOST_WORDS {
         return false;
     }
     let from = WORD * (2 + n * PAIR_WORDS);
@@ -199,7 +199,7 @@ fn same_pairs(buf: &[u8]) -> bool {
         return false;
     }
     let pairs = &buf[from..];
-    if !pairs_fit(pairs) {
+    if pairs.len() != PAIR_BYTES {
         return false;
     }
     same_bits(pairs, buf, n)
@@ -227,18 +227,10 @@ fn same_case(buf: &[u8], made: &mut [u8]) -> bool
 fn main() {
     let mut buf = [0u8; CASE_BYTES];
     let mut made = [0u8; MADE_BYTES];
-    let mut cases: u32 = 0;
-    let mut differ: u32 = 0;
-    let mut first: u32 = 0;
-    while cases < MOST_CASES {
-        let n = next_case(&mut buf);
-        if n == 0 {
-            break;
-        }
-        cases += 1;
-        let wrong = !same_case(&buf[..n], &mut made);
-        first = pick(wrong & (differ == 0), cases, first);
-        differ += one(wrong);
+    let mut t = first_case(&mut buf);
+    while t.size > 0 {
+        let same = same_case(&buf[..t.size], &mut made);
+        t = next_case(&mut buf, t, same);
     }
-    say(cases, differ, first);
+    say(t);
 }

@@ -3,26 +3,28 @@
 ghost use Prim.Native.Nat.{_+_, _≤_};
 ghost use mathlib.Core.Path.{_≡_};
 ghost use lib.ListN.{length};
-ghost use Rattle.replay_coherence.specs.Sizes.{BLOCK-BYTES, TEXT-ROOM};
-use bits::limits::MOST_LANGUAGES;
-use bits::limits::WORK_PER_POINT;
-use bits::one;
-use bits::pick;
-use bits::refusals::ACCEPTED;
+ghost use Rattle.replay.specs.Inner.Tally.{Sound};
+ghost use Rattle.replay_coherence.specs.Inner.Sizes.{BLOCK-BYTES, TEXT-ROOM};
+use base::limits::MOST_LANGUAGES;
+use base::limits::WORK_PER_POINT;
+use base::pick;
+use base::refusals::ACCEPTED;
 use cd::coherence_ratio;
-use ranking::Ranking;
+use cd_ranking::Ranking;
+use replay::Tally;
+use replay::WORD;
+use replay::counted;
+use replay::first_case;
 use replay::flip_bits;
 use replay::float_of;
+use replay::least;
 use replay::next_case;
+use replay::no_cases;
 use replay::say;
 use replay::word;
 use replay::words;
 
 const BLOCK_BYTES: usize = 131072;
-
-const MOST_CASES: u32 = 100000;
-
-const WORD: usize = 4;
 
 // The first words of a block: bytes of the class table, of the language table and of the pair table, the byte that fills the pair table, how
 // many of its bits are flipped, how many questions. Then come the class table, the language table, the bits and the questions.
@@ -72,35 +74,6 @@ const SIGN_BIT: u32 = 0x8000_0000;
 
 // What the work area holds before a call.
 const MARK: u32 = 0xA5C3_0F5A;
-
-// How many cases there were, how many differ, and the first that does.
-struct Tally {
-    cases: u32,
-    differ: u32,
-    first: u32,
-}
-
-fn counted(t: Tally, same: bool) -> Tally {
-    if t.cases >= MOST_CASES {
-        return t;
-    }
-    if t.differ >= MOST_CASES {
-        return t;
-    }
-    let wrong = !same;
-    let cases = t.cases + 1;
-    Tally {
-        cases,
-        differ: t.differ + one(wrong),
-        first: pick(wrong & (t.differ == 0), cases, t.first),
-    }
-}
-
-fn least(a: usize, b: usize) -> usize
-    ensures { λ r. ⌜ (r ≤ a) × (r ≤ b) ⌝ }
-{
-    if a < b { a } else { b }
-}
 
 // The place behind `from` among p, or the first.
 fn behind(from: usize, p: usize) -> usize
@@ -253,10 +226,13 @@ fn replay_questions(
     classes: &[u8],
     pairs: &[u8],
     languages: &[u8],
-    so_far: Tally,
-) -> Tally {
+    before: Tally,
+) -> Tally
+    requires { ⌜ Sound before ⌝ }
+    ensures { λ r. ⌜ Sound r ⌝ }
+{
     let n = word(buf, QUESTIONS_AT);
-    let mut t = so_far;
+    let mut t = before;
     let mut at = from;
     let mut k = 0;
     while k < n {
@@ -271,7 +247,10 @@ fn replay_questions(
 }
 
 // A block: its tables, and its questions asked of them.
-fn replay_block(buf: &[u8], so_far: Tally) -> Tally {
+fn replay_block(buf: &[u8], before: Tally) -> Tally
+    requires { ⌜ Sound before ⌝ }
+    ensures { λ r. ⌜ Sound r ⌝ }
+{
     let c = least(word(buf, 0) as usize, BLOCK_BYTES);
     let l = least(word(buf, LANGUAGES_AT) as usize, BLOCK_BYTES);
     let p = least(word(buf, PAIRS_AT) as usize, PAIR_ROOM);
@@ -279,7 +258,7 @@ fn replay_block(buf: &[u8], so_far: Tally) -> Tally {
     let second = HEAD + (c + 3) / WORD;
     let flipped = second + (l + 3) / WORD;
     if flipped * WORD > buf.len() {
-        return so_far;
+        return before;
     }
     let fill = (word(buf, FILL_AT) % 256) as u8;
     let mut pairs = [fill; PAIR_ROOM];
@@ -292,25 +271,17 @@ fn replay_block(buf: &[u8], so_far: Tally) -> Tally {
         &buf[a..a + c],
         &pairs[..p],
         &buf[b..b + l],
-        so_far,
+        before,
     )
 }
 
 fn main() {
     let mut buf = [0u8; BLOCK_BYTES];
-    let mut t = Tally {
-        cases: 0,
-        differ: 0,
-        first: 0,
-    };
-    let mut blocks: u32 = 0;
-    while blocks < MOST_CASES {
-        let n = next_case(&mut buf);
-        if n == 0 {
-            break;
-        }
-        t = replay_block(&buf[..n], t);
-        blocks += 1;
+    let mut t = no_cases();
+    let mut blocks = first_case(&mut buf);
+    while blocks.size > 0 {
+        t = replay_block(&buf[..blocks.size], t);
+        blocks = next_case(&mut buf, blocks, true);
     }
-    say(t.cases, t.differ, t.first);
+    say(t);
 }

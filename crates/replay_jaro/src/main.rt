@@ -1,18 +1,20 @@
 // Replays a list of pairs of letters with their Jaro measure, the f32 by the oracle, and of f64s with their nearest f32
 // (oracle/lists/jaro.py).
 ghost use mathlib.Core.Path.{_≡_};
-ghost use Prim.Native.Nat.{_<_, _≤_};
+ghost use Prim.Native.Nat.{_<_, _≤_, _^_};
 ghost use lib.ListN.{length};
-ghost use Rattle.bits.specs.Limits.{LONGEST-RANKED, LANGUAGE-LETTERS};
-ghost use Rattle.narrow.specs.Nearest.{Narrowable};
-use bits::limits::LANGUAGE_LETTERS;
-use bits::limits::LONGEST_RANKED;
-use bits::one;
-use bits::pick;
-use jaro::jaro;
-use jaro::matched;
-use jaro::similarity;
-use narrow::nearest_f32;
+ghost use Rattle.base.specs.Inner.Limits.{MOST-LETTERS};
+ghost use Rattle.base.specs.Limits.{LANGUAGE-LETTERS};
+ghost use Rattle.f32_nearest.specs.Inner.Nearest.{Narrowable};
+ghost use Rattle.replay.specs.Inner.Sizes.{FRONT};
+use base::limits::LANGUAGE_LETTERS;
+use base::limits::MOST_LETTERS;
+use cd_jaro::jaro;
+use cd_jaro::matched;
+use cd_jaro::similarity;
+use f32_nearest::nearest_f32;
+use replay::WORD;
+use replay::first_case;
 use replay::next_case;
 use replay::say;
 use replay::word;
@@ -26,25 +28,26 @@ const NUMBER: u32 = 2;
 // The words before the letters: the kind, two lengths, m, t, the f64 and the f32.
 const HEAD: usize = 8;
 
-// The bytes of the longest case: 4 times HEAD, LONGEST_RANKED and LANGUAGE_LETTERS.
-const CASE_BYTES: usize = 33824;
-
-const MOST_CASES: u32 = 100000;
+// The bytes of the longest case.
+const CASE_BYTES: usize = WORD * (HEAD + MOST_LETTERS + LANGUAGE_LETTERS);
 
 // The bits of 1.0: up to them no pattern is a NaN's.
 const ONE_BITS: u64 = 0x3FF0_0000_0000_0000;
 
+// What a one of the high word counts.
+const HIGH: u64 = 0x1_0000_0000;
+
 fn wide(x: u32) -> u64
-    ensures { λ r. ⌜ r < 4294967296 ⌝ }
+    ensures { λ r. ⌜ r < 2 ^ 32 ⌝ }
 {
     x as u64
 }
 
 // The f64's bits that stand from the word `at` on, the low word first.
 fn long(buf: &[u8], at: usize) -> u64
-    requires { ⌜ at ≤ 100 ⌝ }
+    requires { ⌜ at ≤ FRONT ⌝ }
 {
-    wide(word(buf, at)) + 4294967296 * wide(word(buf, at + 1))
+    wide(word(buf, at)) + HIGH * wide(word(buf, at + 1))
 }
 
 // The f64 of these bits, if it is one that `nearest_f32` takes; 0 for any other.
@@ -74,20 +77,20 @@ fn same_number(buf: &[u8]) -> bool {
 }
 
 fn jaro_bits(layer: &[u32], language: &[u32]) -> u64
-    requires { ⌜ (length (now layer) ≤ LONGEST-RANKED) × (length (now language) ≤ LANGUAGE-LETTERS) ⌝ }
+    requires { ⌜ (length (now layer) ≤ MOST-LETTERS) × (length (now language) ≤ LANGUAGE-LETTERS) ⌝ }
 {
     f64::to_bits(jaro(layer, language))
 }
 
 fn similarity_bits(layer: &[u32], language: &[u32]) -> u32
-    requires { ⌜ (length (now layer) ≤ LONGEST-RANKED) × (length (now language) ≤ LANGUAGE-LETTERS) ⌝ }
+    requires { ⌜ (length (now layer) ≤ MOST-LETTERS) × (length (now language) ≤ LANGUAGE-LETTERS) ⌝ }
 {
     f32::to_bits(similarity(layer, language))
 }
 
 // Whether m, t, the f64 and the f32 of two lists are those that the case has.
 fn same_measure(buf: &[u8], layer: &[u32], language: &[u32]) -> bool
-    requires { ⌜ (length (now layer) ≤ LONGEST-RANKED) × (length (now language) ≤ LANGUAGE-LETTERS) ⌝ }
+    requires { ⌜ (length (now layer) ≤ MOST-LETTERS) × (length (now language) ≤ LANGUAGE-LETTERS) ⌝ }
 {
     let counts = matched(layer, language);
     (counts.matches == word(buf, 3) as usize)
@@ -98,7 +101,7 @@ fn same_measure(buf: &[u8], layer: &[u32], language: &[u32]) -> bool
 
 // The letters are put at the front of the two lent lists.
 fn same_lists(buf: &[u8], layer: &mut [u32], language: &mut [u32]) -> bool
-    requires { ⌜ (length (now layer) ≤ LONGEST-RANKED) × (length (now language) ≤ LANGUAGE-LETTERS) ⌝ }
+    requires { ⌜ (length (now layer) ≤ MOST-LETTERS) × (length (now language) ≤ LANGUAGE-LETTERS) ⌝ }
     ensures { λ _. ⌜ (length (now (layer .exit)) ≡ length (now (layer .entry))) × (length (now (language .exit)) ≡ length (now (language .entry))) ⌝ }
 {
     let a = word(buf, 1) as usize;
@@ -115,7 +118,7 @@ fn same_lists(buf: &[u8], layer: &mut [u32], language: &mut [u32]) -> bool
 }
 
 fn same_case(buf: &[u8], layer: &mut [u32], language: &mut [u32]) -> bool
-    requires { ⌜ (length (now layer) ≤ LONGEST-RANKED) × (length (now language) ≤ LANGUAGE-LETTERS) ⌝ }
+    requires { ⌜ (length (now layer) ≤ MOST-LETTERS) × (length (now language) ≤ LANGUAGE-LETTERS) ⌝ }
     ensures { λ _. ⌜ (length (now (layer .exit)) ≡ length (now (layer .entry))) × (length (now (language .exit)) ≡ length (now (language .entry))) ⌝ }
 {
     let kind = word(buf, 0);
@@ -130,20 +133,12 @@ fn same_case(buf: &[u8], layer: &mut [u32], language: &mut [u32]) -> bool
 
 fn main() {
     let mut buf = [0u8; CASE_BYTES];
-    let mut layer = [0u32; LONGEST_RANKED];
+    let mut layer = [0u32; MOST_LETTERS];
     let mut language = [0u32; LANGUAGE_LETTERS];
-    let mut cases: u32 = 0;
-    let mut differ: u32 = 0;
-    let mut first: u32 = 0;
-    while cases < MOST_CASES {
-        let n = next_case(&mut buf);
-        if n == 0 {
-            break;
-        }
-        cases += 1;
-        let wrong = !same_case(&buf[..n], &mut layer, &mut language);
-        first = pick(wrong & (differ == 0), cases, first);
-        differ += one(wrong);
+    let mut t = first_case(&mut buf);
+    while t.size > 0 {
+        let same = same_case(&buf[..t.size], &mut layer, &mut language);
+        t = next_case(&mut buf, t, same);
     }
-    say(cases, differ, first);
+    say(t);
 }

@@ -1,17 +1,21 @@
 // Replays a list of texts with the oracle's layers (oracle/lists/layers.py): the letters of each layer, in making order and in text order,
 // how many they are, and its different letters by count falling, then code point rising.
-ghost use Prim.Native.Nat.{_+_, _*_, _≤_};
+ghost use Prim.Native.Nat.{_+_, _≤_};
 ghost use mathlib.Core.Path.{_≡_};
 ghost use lib.ListN.{length};
-ghost use Rattle.bits.specs.Limits.{LAST-RANGE, PAIR-BYTES};
-ghost use Rattle.replay_layers.specs.Filling.{LONGEST, LAST-WORD, Filled};
-use bits::limits::PAIR_BYTES;
-use bits::limits::RANGES;
-use bits::one;
-use bits::pick;
-use layers::alpha_unicode_split;
-use letters::rank;
-use letters::size;
+ghost use Rattle.base.specs.Limits.{LAST-RANGE, PAIR-BYTES};
+ghost use Rattle.cd_work.specs.Inner.Layout as layout;
+ghost use Rattle.replay_layers.specs.Inner.Filling.{LONGEST, LAST-WORD, Filled};
+use base::limits::PAIR_BYTES;
+use base::limits::RANGES;
+use base::limits::WORK_PER_POINT;
+use cd_layers::alpha_unicode_split;
+use cd_letters::rank;
+use cd_letters::size;
+use cd_work::lacks_start;
+use cd_work::letters_start;
+use cd_work::order_start;
+use replay::first_case;
 use replay::flip_bits;
 use replay::next_case;
 use replay::say;
@@ -21,11 +25,9 @@ use replay::words;
 // The characters of the longest text, and the words of the work area for it.
 const LONGEST: usize = 1024;
 
-const WORK: usize = 4096;
+const WORK: usize = WORK_PER_POINT * LONGEST;
 
 const CASE_BYTES: usize = 32768;
-
-const MOST_CASES: u32 = 100000;
 
 // No word of a case stands past this one.
 const LAST_WORD: usize = 8192;
@@ -49,14 +51,15 @@ fn set_ranges(buf: &[u8], from: usize, n: usize, work: &mut [u32])
 
 // Whether the letters of the layer k stand from the word `at` on.
 fn same_letters(buf: &[u8], at: usize, work: &[u32], n: usize, k: u32) -> bool
-    requires { ⌜ (at ≤ LAST-WORD + 1) × (4 * n ≤ length (now work)) × (n ≤ LONGEST) ⌝ }
+    requires { ⌜ (at ≤ LAST-WORD + 1) × (layout.words n ≤ length (now work)) × (n ≤ LONGEST) ⌝ }
 {
+    let letters = letters_start(n);
     let mut same = true;
     let mut j = at;
     let mut i = 0;
     while i < n {
         if work[i] == k {
-            same = same & (work[n + i] == word(buf, j));
+            same = same & (work[letters + i] == word(buf, j));
             j += 1;
             i += 1;
         } else {
@@ -68,13 +71,13 @@ fn same_letters(buf: &[u8], at: usize, work: &[u32], n: usize, k: u32) -> bool
 
 // Whether the d words from the word `at` on are the ranked letters.
 fn same_ranking(buf: &[u8], at: usize, work: &[u32], n: usize, d: usize) -> bool
-    requires { ⌜ (at ≤ LAST-WORD + LONGEST + 2) × (d ≤ n) × (4 * n ≤ length (now work)) × (n ≤ LONGEST) ⌝ }
+    requires { ⌜ (at ≤ LAST-WORD + LONGEST + 2) × (d ≤ n) × (layout.words n ≤ length (now work)) × (n ≤ LONGEST) ⌝ }
 {
-    let high = n + n + n;
+    let order = order_start(n);
     let mut same = true;
     let mut i = 0;
     while i < d {
-        same = same & (work[high + i] == word(buf, at + i));
+        same = same & (work[order + i] == word(buf, at + i));
         i += 1;
     }
     same
@@ -82,7 +85,7 @@ fn same_ranking(buf: &[u8], at: usize, work: &[u32], n: usize, d: usize) -> bool
 
 // Whether the layer k is as it stands from the word `at` on; then the word behind it, else 0.
 fn past_layer(buf: &[u8], at: usize, work: &mut [u32], n: usize, k: u32) -> usize
-    requires { ⌜ (at ≤ LAST-WORD) × (4 * n ≤ length (now work)) × (n ≤ LONGEST) ⌝ }
+    requires { ⌜ (at ≤ LAST-WORD) × (layout.words n ≤ length (now work)) × (n ≤ LONGEST) ⌝ }
 {
     let c = size(&work[..n], k);
     if !same_letters(buf, at + 1, work, n, k) {
@@ -99,7 +102,7 @@ fn past_layer(buf: &[u8], at: usize, work: &mut [u32], n: usize, k: u32) -> usiz
 }
 
 fn same_layers(buf: &[u8], from: usize, work: &mut [u32], n: usize, count: usize) -> bool
-    requires { ⌜ (from ≤ LAST-WORD) × (4 * n ≤ length (now work)) × (n ≤ LONGEST) × (count ≤ LAST-RANGE) ⌝ }
+    requires { ⌜ (from ≤ LAST-WORD) × (layout.words n ≤ length (now work)) × (n ≤ LONGEST) × (count ≤ LAST-RANGE) ⌝ }
 {
     let mut at = from;
     let mut k = 0;
@@ -119,12 +122,13 @@ fn same_layers(buf: &[u8], from: usize, work: &mut [u32], n: usize, count: usize
 
 // Whether the text of n characters that stands behind p pairs has the layers that stand behind it.
 fn same_text(buf: &[u8], n: usize, p: usize, pairs: &[u8], work: &mut [u32]) -> bool
-    requires { ⌜ (n ≤ LONGEST) × (p ≤ LONGEST) × (4 * n ≤ length (now work)) × (length (now pairs) ≡ PAIR-BYTES) ⌝ }
+    requires { ⌜ (n ≤ LONGEST) × (p ≤ LONGEST) × (layout.words n ≤ length (now work)) × (length (now pairs) ≡ PAIR-BYTES) ⌝ }
 {
     let ranges = HEAD + p;
     let letters = ranges + n;
-    let m = n + n;
-    words(buf, letters, &mut work[n..m]);
+    let start = letters_start(n);
+    let end = lacks_start(n);
+    words(buf, letters, &mut work[start..end]);
     set_ranges(buf, ranges, n, work);
     let count = alpha_unicode_split(work, n, pairs);
     (count == word(buf, 2) as usize) & same_layers(buf, letters + n, work, n, count)
@@ -148,18 +152,10 @@ fn same_case(buf: &[u8]) -> bool {
 
 fn main() {
     let mut buf = [0u8; CASE_BYTES];
-    let mut cases: u32 = 0;
-    let mut differ: u32 = 0;
-    let mut first: u32 = 0;
-    while cases < MOST_CASES {
-        let n = next_case(&mut buf);
-        if n == 0 {
-            break;
-        }
-        cases += 1;
-        let wrong = !same_case(&buf[..n]);
-        first = pick(wrong & (differ == 0), cases, first);
-        differ += one(wrong);
+    let mut t = first_case(&mut buf);
+    while t.size > 0 {
+        let same = same_case(&buf[..t.size]);
+        t = next_case(&mut buf, t, same);
     }
-    say(cases, differ, first);
+    say(t);
 }

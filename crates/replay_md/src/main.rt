@@ -2,14 +2,24 @@
 ghost use mathlib.Core.Path.{_≡_};
 ghost use Prim.Native.Nat.{_≤_};
 ghost use lib.ListN.{length};
-ghost use Rattle.md.specs.Plain.{PlainAnswer, PlainScore};
-use bits::one;
-use bits::pick;
+ghost use Rattle.md.specs.Inner.Plain.{PlainAnswer, PlainScore};
+use base::limits::CLASS_RECORD;
+use base::limits::LONGEST_TEXT;
+use base::limits::MOST_CLASSES;
+use base::limits::PAIR_BYTES;
+use base::one;
 use md::Score;
 use md::Scored;
 use md::mess_ratio;
+use ratio::DETECTORS;
+use ratio::rounding::bits;
+use replay::WORD;
+use replay::first_case;
 use replay::float_of;
+use replay::least;
 use replay::next_case;
+use replay::read_case;
+use replay::same_words;
 use replay::say;
 use replay::word;
 use replay::words;
@@ -30,31 +40,28 @@ const CLASSES_AT: usize = 3;
 
 const ANSWER_AT: usize = 4;
 
-const REST_AT: usize = 17;
+const RATIOS_AT: usize = ANSWER_AT + 2;
 
-const WORD: usize = 4;
+const SUM_AT: usize = RATIOS_AT + DETECTORS;
 
-const MOST_CASES: u32 = 100000;
+const REST_AT: usize = SUM_AT + 3;
 
-fn least(a: usize, b: usize) -> usize
-    ensures { λ r. ⌜ (r ≤ a) × (r ≤ b) ⌝ }
-{
-    if a < b { a } else { b }
-}
+const CASE_BYTES: usize = 8192;
 
-// Whether the eight ratios are those that stand from the word `at` on.
+// The most bytes of the class table at the list's front, and those of the pair table there, which has a word of 0 behind it.
+const CLASS_BYTES: usize = MOST_CLASSES * CLASS_RECORD;
+
+const PAIR_ROOM: usize = PAIR_BYTES + WORD;
+
+// The most code points of a text that stands in a case, and of one character repeated: one over the limit.
+const SHORT_TEXT: usize = 2048;
+
+const LONG_TEXT: usize = LONGEST_TEXT + 1;
+
 fn same_ratios(s: Score, buf: &[u8]) -> bool
     requires { ⌜ PlainScore s ⌝ }
 {
-    let r = s.ratios;
-    (f32::to_bits(r.symbols) == word(buf, ANSWER_AT + 2))
-        & (f32::to_bits(r.accents) == word(buf, ANSWER_AT + 3))
-        & (f32::to_bits(r.unprintable) == word(buf, ANSWER_AT + 4))
-        & (f32::to_bits(r.ranges) == word(buf, ANSWER_AT + 5))
-        & (f32::to_bits(r.doubled) == word(buf, ANSWER_AT + 6))
-        & (f32::to_bits(r.words) == word(buf, ANSWER_AT + 7))
-        & (f32::to_bits(r.stops) == word(buf, ANSWER_AT + 8))
-        & (f32::to_bits(r.archaic) == word(buf, ANSWER_AT + 9))
+    same_words(&bits(s.ratios), buf, RATIOS_AT)
 }
 
 fn same_score(s: Score, buf: &[u8]) -> bool
@@ -63,9 +70,9 @@ fn same_score(s: Score, buf: &[u8]) -> bool
     (word(buf, ANSWER_AT) == 0)
         & (word(buf, ANSWER_AT + 1) == 0)
         & same_ratios(s, buf)
-        & (f32::to_bits(s.sum) == word(buf, ANSWER_AT + 10))
-        & (s.fed == word(buf, ANSWER_AT + 11))
-        & (one(s.stopped) == word(buf, ANSWER_AT + 12))
+        & (f32::to_bits(s.sum) == word(buf, SUM_AT))
+        & (s.fed == word(buf, SUM_AT + 1))
+        & (one(s.stopped) == word(buf, SUM_AT + 2))
 }
 
 // Whether an answer is the one that a case has.
@@ -96,12 +103,12 @@ fn same(text: &[u32], buf: &[u8], classes: &[u8], pairs: &[u8]) -> bool {
 
 // A text that stands in the case from the word `from` on.
 fn same_text(buf: &[u8], from: usize, classes: &[u8], pairs: &[u8]) -> bool {
-    let mut text = [0u32; 2048];
+    let mut text = [0u32; SHORT_TEXT];
     let all = buf.len() / WORD;
     if from > all {
         return false;
     }
-    if all - from > 2048 {
+    if all - from > SHORT_TEXT {
         return false;
     }
     let n = all - from;
@@ -120,8 +127,8 @@ fn same_own(buf: &[u8], pairs: &[u8]) -> bool {
 }
 
 fn same_repeated(buf: &[u8], classes: &[u8], pairs: &[u8]) -> bool {
-    let text = [word(buf, REST_AT + 1); 65537];
-    let n = least(word(buf, REST_AT) as usize, 65537);
+    let text = [word(buf, REST_AT + 1); LONG_TEXT];
+    let n = least(word(buf, REST_AT) as usize, LONG_TEXT);
     same(&text[..n], buf, classes, pairs)
 }
 
@@ -141,27 +148,19 @@ fn same_case(buf: &[u8], classes: &[u8], pairs: &[u8]) -> bool {
 
 // The cases behind the two tables.
 fn replay_all(classes: &[u8], pairs: &[u8]) {
-    let mut buf = [0u8; 8192];
-    let mut cases: u32 = 0;
-    let mut differ: u32 = 0;
-    let mut first: u32 = 0;
-    while cases < MOST_CASES {
-        let n = next_case(&mut buf);
-        if n == 0 {
-            break;
-        }
-        cases += 1;
-        let wrong = !same_case(&buf[..n], classes, pairs);
-        first = pick(wrong & (differ == 0), cases, first);
-        differ += one(wrong);
+    let mut buf = [0u8; CASE_BYTES];
+    let mut t = first_case(&mut buf);
+    while t.size > 0 {
+        let same = same_case(&buf[..t.size], classes, pairs);
+        t = next_case(&mut buf, t, same);
     }
-    say(cases, differ, first);
+    say(t);
 }
 
 fn main() {
-    let mut classes = [0u8; 196608];
-    let mut pairs = [0u8; 32772];
-    let c = next_case(&mut classes);
-    let p = next_case(&mut pairs);
+    let mut classes = [0u8; CLASS_BYTES];
+    let mut pairs = [0u8; PAIR_ROOM];
+    let c = read_case(&mut classes);
+    let p = read_case(&mut pairs);
     replay_all(&classes[..c], &pairs[..p]);
 }

@@ -2,32 +2,32 @@
 // case holds).
 ghost use Prim.Native.Nat.{_≤_};
 ghost use lib.ListN.{length};
-ghost use Rattle.bits.specs.Limits.{LARGEST};
-ghost use Rattle.replay_plugins.specs.Ready.{Numbers, Ready};
-use bits::one;
-use bits::pick;
+ghost use Rattle.base.specs.Inner.Limits.{LARGEST};
+ghost use Rattle.md_eight.specs.Inner.Detectors.{Countable};
+ghost use Rattle.replay_plugins.specs.Inner.Numbers.{Numbers};
 use classes::Class;
-use plugins::Detectors;
+use md_eight::Detectors;
+use ratio::DETECTORS;
 use ratio::Ratios;
+use ratio::rounding::bits;
 use ratio::rounding::sum;
+use replay::WORD;
+use replay::first_case;
 use replay::next_case;
+use replay::same_words;
 use replay::say;
 use replay::word;
 
 // The words before the letters: the sum, eight ratios, and the number of letters.
-const HEAD: usize = 10;
+const HEAD: usize = DETECTORS + 2;
 
 // The words of a letter: code point, flags, range and base, and two words of bytes for the pairs.
 const LETTER: usize = 6;
 
 const PAIRS: usize = 4;
 
-const WORD: usize = 4;
-
 // The longest case is shorter than this.
 const LONGEST_CASE: usize = 2048;
-
-const MOST_CASES: u32 = 100000;
 
 fn byte(case: &[u8], at: usize) -> u8 {
     if at < case.len() { case[at] } else { 0 }
@@ -54,7 +54,7 @@ fn suspicious(case: &[u8], k: u8, last: u32) -> bool {
 // The detectors fed the text.
 fn fed(case: &[u8], text: &[u8]) -> Detectors
     requires { ⌜ length (now text) ≤ LARGEST ⌝ }
-    ensures { λ r. ⌜ Ready r ⌝ }
+    ensures { λ r. ⌜ Countable r ⌝ }
 {
     let mut s = Detectors::start();
     let mut i = 0;
@@ -67,24 +67,22 @@ fn fed(case: &[u8], text: &[u8]) -> Detectors
 }
 
 fn ratios_of(s: Detectors) -> Ratios
-    requires { ⌜ Ready s ⌝ }
+    requires { ⌜ Countable s ⌝ }
     ensures { λ r. ⌜ Numbers r ⌝ }
 {
     s.ratios()
 }
 
+fn sum_bits(r: Ratios) -> u32
+    requires { ⌜ Numbers r ⌝ }
+{
+    f32::to_bits(sum(r))
+}
+
 fn same_ratios(case: &[u8], r: Ratios) -> bool
     requires { ⌜ Numbers r ⌝ }
 {
-    (f32::to_bits(sum(r)) == word(case, 0))
-        & (f32::to_bits(r.symbols) == word(case, 1))
-        & (f32::to_bits(r.accents) == word(case, 2))
-        & (f32::to_bits(r.unprintable) == word(case, 3))
-        & (f32::to_bits(r.ranges) == word(case, 4))
-        & (f32::to_bits(r.doubled) == word(case, 5))
-        & (f32::to_bits(r.words) == word(case, 6))
-        & (f32::to_bits(r.stops) == word(case, 7))
-        & (f32::to_bits(r.archaic) == word(case, 8))
+    (sum_bits(r) == word(case, 0)) & same_words(&bits(r), case, 1)
 }
 
 fn same_case(case: &[u8]) -> bool
@@ -100,18 +98,10 @@ fn same_case(case: &[u8]) -> bool
 
 fn main() {
     let mut buf = [0u8; LONGEST_CASE];
-    let mut cases: u32 = 0;
-    let mut differ: u32 = 0;
-    let mut first: u32 = 0;
-    while cases < MOST_CASES {
-        let n = next_case(&mut buf);
-        if n == 0 {
-            break;
-        }
-        cases += 1;
-        let wrong = !same_case(&buf[..n]);
-        first = pick(wrong & (differ == 0), cases, first);
-        differ += one(wrong);
+    let mut t = first_case(&mut buf);
+    while t.size > 0 {
+        let same = same_case(&buf[..t.size]);
+        t = next_case(&mut buf, t, same);
     }
-    say(cases, differ, first);
+    say(t);
 }

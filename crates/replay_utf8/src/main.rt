@@ -1,13 +1,17 @@
 // Replays a list of byte strings with what reading them answers (oracle/lists/utf8.py): Table 3-7 at every bound, sequences that the end
 // cuts off, runs of ASCII, and the limits of bytes, code points and room. Each case compares the answer and every element of the output.
-use bits::one;
-use bits::pick;
+ghost use Prim.Native.Nat.{_≤_, _<_};
+ghost use Rattle.replay_utf8.specs.Inner.Sizes.{SMALL, INPUT, OUTPUT};
+use base::Counted;
+use base::limits::LONGEST_BYTES;
+use base::limits::LONGEST_TEXT;
+use replay::WORD;
+use replay::first_case;
+use replay::least;
 use replay::next_case;
 use replay::say;
 use replay::word;
-use utf8::Read;
 use utf8::read_utf8;
-ghost use Prim.Native.Nat.{_≤_};
 
 // The words at the head of a case.
 const ROOM: usize = 0;
@@ -30,32 +34,22 @@ const POINTS: usize = 8;
 
 const HEAD_WORDS: usize = 9;
 
-const WORD: usize = 4;
-
 // More than any unit, tail or case has.
 const SMALL: usize = 1024;
 
 const CASE_BYTES: usize = 1024;
 
-const MOST_CASES: u32 = 100000;
-
 // The longest input, one byte over the limit, and the largest output, one element over it.
-const INPUT: usize = 262145;
+const INPUT: usize = LONGEST_BYTES + 1;
 
-const OUTPUT: usize = 65537;
+const OUTPUT: usize = LONGEST_TEXT + 1;
 
 // What stands in the output before a call: no code point.
 const UNTOUCHED: u32 = 0xFFFF_FFFF;
 
-fn least(a: usize, b: usize) -> usize
-    ensures { λ r. ⌜ r ≤ b ⌝ }
-{
-    if a < b { a } else { b }
-}
-
 // The k-th word of the head, where it is a small number.
 fn small(case: &[u8], k: usize) -> usize
-    ensures { λ r. ⌜ r ≤ 1023 ⌝ }
+    ensures { λ r. ⌜ r < SMALL ⌝ }
 {
     word(case, k) as usize % SMALL
 }
@@ -79,7 +73,7 @@ fn input_byte(case: &[u8], i: usize) -> u8 {
 
 // The word at which the code points begin: past the bytes, rounded up.
 fn points_from(case: &[u8]) -> usize
-    ensures { λ r. ⌜ r ≤ 1023 ⌝ }
+    ensures { λ r. ⌜ r < SMALL ⌝ }
 {
     HEAD_WORDS + (small(case, UNIT) + small(case, TAIL) + (WORD - 1)) / WORD
 }
@@ -127,12 +121,12 @@ fn same_output(case: &[u8], out: &[u32]) -> bool {
     same
 }
 
-fn same_answer(case: &[u8], answer: Read) -> bool {
+fn same_answer(case: &[u8], answer: Counted) -> bool {
     match answer {
-        Read::Count(count) => (word(case, NUMBER) == 0)
+        Counted::Count(count) => (word(case, NUMBER) == 0)
             & (word(case, PLACE) == 0)
             & (word(case, COUNT) == count),
-        Read::Refused(why) => {
+        Counted::Refused(why) => {
             (word(case, NUMBER) == why.number)
                 & (word(case, PLACE) == why.place)
                 & (word(case, COUNT) == 0)
@@ -149,13 +143,13 @@ fn same_case(case: &[u8], input: &mut [u8], out: &mut [u32]) -> bool {
 }
 
 fn input_size(case: &[u8]) -> usize
-    ensures { λ r. ⌜ r ≤ 262145 ⌝ }
+    ensures { λ r. ⌜ r ≤ INPUT ⌝ }
 {
     least(word(case, CYCLED) as usize + small(case, TAIL), INPUT)
 }
 
 fn room_of(case: &[u8]) -> usize
-    ensures { λ r. ⌜ r ≤ 65537 ⌝ }
+    ensures { λ r. ⌜ r ≤ OUTPUT ⌝ }
 {
     least(word(case, ROOM) as usize, OUTPUT)
 }
@@ -164,20 +158,12 @@ fn main() {
     let mut buf = [0u8; CASE_BYTES];
     let mut input = [0u8; INPUT];
     let mut out = [0u32; OUTPUT];
-    let mut cases: u32 = 0;
-    let mut differ: u32 = 0;
-    let mut first: u32 = 0;
-    while cases < MOST_CASES {
-        let n = next_case(&mut buf);
-        if n == 0 {
-            break;
-        }
-        cases += 1;
-        let size = input_size(&buf[..n]);
-        let room = room_of(&buf[..n]);
-        let wrong = !same_case(&buf[..n], &mut input[..size], &mut out[..room]);
-        first = pick(wrong & (differ == 0), cases, first);
-        differ += one(wrong);
+    let mut t = first_case(&mut buf);
+    while t.size > 0 {
+        let size = input_size(&buf[..t.size]);
+        let room = room_of(&buf[..t.size]);
+        let same = same_case(&buf[..t.size], &mut input[..size], &mut out[..room]);
+        t = next_case(&mut buf, t, same);
     }
-    say(cases, differ, first);
+    say(t);
 }

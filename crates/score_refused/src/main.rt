@@ -1,4 +1,4 @@
 // The same program as `score`, run here on byte FF, which is not UTF-8.
 fn main() {
-    report::run();
+    program::run();
 }

@@ -1,5 +1,2 @@
-pub mod Places
-pub mod Going
-pub mod Counting
-pub mod Widening
-pub mod Filling
+pub mod Laws
+pub mod Loops

@@ -3,8 +3,8 @@ use utf8_table::wide;
 ghost use mathlib.Core.Path.{_≡_};
 ghost use Prim.Native.Nat.{_+_, _≤_};
 ghost use lib.ListN.{length};
-ghost use lib.Seq.{paste};
-ghost use Rattle.utf8.specs.Ascii.{AsciiRun, asciiOn};
+ghost use Rattle.base.specs.Put.{put};
+ghost use Rattle.utf8.specs.Inner.Ascii.{AsciiRun, asciiOn};
 
 // Whether the eight bytes from i on are ASCII. Plain tests joined by &, of which the compiler makes one load and one test.
 fn eight_ascii(b: &[u8], i: usize) -> bool
@@ -68,7 +68,7 @@ pub fn past_ascii(b: &[u8], i: usize) -> usize
 // ASCII bytes as code points, into out from a place on.
 pub fn widen(ascii: &[u8], out: &mut [u32], at: usize)
     requires { ⌜ at + length (now ascii) ≤ length (now out) ⌝ }
-    ensures { λ _. ⌜ now (out .exit) ≡ paste (now (out .entry)) at (now (ascii .entry)) (length (now (ascii .entry))) ⌝ }
+    ensures { λ _. ⌜ now (out .exit) ≡ put (now (out .entry)) at (now (ascii .entry)) ⌝ }
 {
     let mut k = 0;
     while k < ascii.len() {

@@ -4,12 +4,13 @@ mod ascii;
 
 use ascii::past_ascii;
 use ascii::widen;
-use bits::Refusal;
-use bits::limits::LONGEST_BYTES;
-use bits::limits::LONGEST_TEXT;
-use bits::refusals::ILL_FORMED;
-use bits::refusals::NO_ROOM;
-use bits::refusals::TOO_LONG;
+use base::Counted;
+use base::limits::LONGEST_BYTES;
+use base::limits::LONGEST_TEXT;
+use base::not_counted;
+use base::refusals::ILL_FORMED;
+use base::refusals::NO_ROOM;
+use base::refusals::TOO_LONG;
 use utf8_table::four_at;
 use utf8_table::is_four;
 use utf8_table::is_three;
@@ -21,14 +22,10 @@ ghost use mathlib.Core.Bool.{true};
 ghost use mathlib.Core.Path.{_≡_};
 ghost use Prim.Native.Nat.{_≤_};
 ghost use lib.ListN.{length};
+ghost use Rattle.base.specs.Put.{put};
 ghost use Rattle.utf8.specs.Text.{textOf, wellFormed};
-ghost use Rattle.utf8.specs.Answer.{measured, counted, refused, answer, filled, outAfter};
-
-// What a reading answers: the number of code points, or the refusal.
-pub enum Read {
-    Count(u32),
-    Refused(Refusal),
-}
+ghost use Rattle.utf8.specs.Inner.Answer.{measured, countUtf8};
+ghost use Rattle.utf8.specs.Answer.{answer, outAfter};
 
 // What bytes are: well-formed, with this many code points, or faulty from this place on.
 pub enum Measured {
@@ -74,7 +71,7 @@ pub fn measure(bytes: &[u8]) -> Measured
 // The code points of well-formed bytes, into the first places of an output that has room.
 pub fn fill(bytes: &[u8], out: &mut [u32])
     requires { ⌜ (wellFormed (now bytes) ≡ true) × (length (textOf (now bytes)) ≤ length (now out)) ⌝ }
-    ensures { λ _. ⌜ now (out .exit) ≡ filled (textOf (now (bytes .entry))) (now (out .entry)) ⌝ }
+    ensures { λ _. ⌜ now (out .exit) ≡ put (now (out .entry)) 0 (textOf (now (bytes .entry))) ⌝ }
 {
     let mut from = 0;
     let mut to = 0;
@@ -104,44 +101,37 @@ pub fn fill(bytes: &[u8], out: &mut [u32])
     }
 }
 
-fn refusal(number: u32, place: u32) -> Read
-    ensures { λ r. ⌜ r ≡ refused number place ⌝ }
-{
-    Read::Refused(Refusal { number, place })
-}
-
 // The number of code points, or the first of the refusals that lie in the bytes.
-pub fn count_utf8(bytes: &[u8]) -> Read
-    ensures { λ r. ⌜ r ≡ counted (now (bytes .entry)) ⌝ }
+pub fn count_utf8(bytes: &[u8]) -> Counted
+    ensures { λ r. ⌜ r ≡ countUtf8 (now (bytes .entry)) ⌝ }
 {
     if LONGEST_BYTES < bytes.len() {
-        return refusal(TOO_LONG, 0);
+        return not_counted(TOO_LONG, 0);
     }
     match measure(bytes) {
-        Measured::Fault(place) => refusal(ILL_FORMED, place as u32),
+        Measured::Fault(place) => not_counted(ILL_FORMED, place as u32),
         Measured::Points(count) => {
             if LONGEST_TEXT < count {
-                return refusal(TOO_LONG, 0);
+                return not_counted(TOO_LONG, 0);
             }
-            let points = count as u32;
-            Read::Count(points)
+            Counted::Count(count as u32)
         }
     }
 }
 
 // The code points of bytes, written into the first places of out; the rest of out stays, and all of it in a refusal.
-pub fn read_utf8(bytes: &[u8], out: &mut [u32]) -> Read
+pub fn read_utf8(bytes: &[u8], out: &mut [u32]) -> Counted
     ensures { λ r. ⌜ r ≡ answer (now (bytes .entry)) (length (now (out .entry))) ⌝ }
     ensures { λ _. ⌜ now (out .exit) ≡ outAfter (now (bytes .entry)) (now (out .entry)) ⌝ }
 {
     match count_utf8(bytes) {
-        Read::Refused(why) => Read::Refused(why),
-        Read::Count(count) => {
+        Counted::Refused(why) => Counted::Refused(why),
+        Counted::Count(count) => {
             if out.len() < count as usize {
-                return refusal(NO_ROOM, 0);
+                return not_counted(NO_ROOM, 0);
             }
             fill(bytes, out);
-            Read::Count(count)
+            Counted::Count(count)
         }
     }
 }

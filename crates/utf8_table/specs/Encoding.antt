@@ -5,7 +5,7 @@ use Prim.Native.Nat.{ℕ, _+_, _/_, _%_}
 use mathlib.Core.List.{List, [], _∷_, _++_}
 use mathlib.Core.Bool.{Bool, true, cond, _&&_}
 use lib.Dec.{ltb}
-use Rattle.bits.specs.Tests.{scalar}
+use Rattle.base.specs.Tests.{scalar}
 
 -- Table 3-6, row by row: up to U+007F one byte, up to U+07FF two, up to U+FFFF three, up to U+10FFFF four
 unfoldable pub encode : ℕ → List ℕ

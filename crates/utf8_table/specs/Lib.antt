@@ -1,6 +1,3 @@
 pub mod Encoding
-pub mod EncodingLaws
 pub mod WellFormed
-pub mod ByLead
-pub mod SoundLaws
-pub mod CompleteLaws
+pub mod Inner

@@ -1,12 +1,11 @@
 -- The well-formed sequences of UTF-8: the Unicode Standard's Table 3-7, Well-Formed UTF-8 Byte Sequences, row by row, with the code
 -- point that Table 3-6 gives the bytes of a row. It says what stands at one place; Text puts the places together. Assumes nothing.
-use Prim.Native.Nat.{ℕ, _+_, _*_, _%_, _<_}
-use mathlib.Core.Path.{_≡_}
+use Prim.Native.Nat.{ℕ, _+_, _*_, _%_}
 use mathlib.Core.List.{List}
 use mathlib.Core.Bool.{Bool, cond, _&&_}
 use lib.ListN.{length, getD}
 use lib.Dec.{ltb}
-use Rattle.bits.specs.Tests.{within}
+use Rattle.base.specs.Tests.{within}
 
 -- what stands at a place: a code point of `size` bytes, or, with size 0, no well-formed sequence
 pub record Step : Type 0 where
@@ -87,8 +86,3 @@ stepAt bytes i =
     cond (ltb i (length bytes))
     (row (byteAt bytes i) (byteAt bytes (i + 1)) (byteAt bytes (i + 2)) (byteAt bytes (i + 3)))
     noRow
-
--- what `wide` ensures: the byte, and that it is one
-pub record Wide (b r : ℕ) : Type 0 where
-  pub is : r ≡ b
-  pub small : r < 256

@@ -1,15 +1,9 @@
 -- 0.1 is finite, so that the cause between the two is never given. Assumes nothing.
 use mathlib.Core.Path.{_∙_}
-use Rattle.cd.specs.CoherenceLaws.{default-same, default-work}
+use Rattle.cd.proofs.Laws.Coherence.{default-same, default-work}
 use borrow.Author.Needs.{needs}
 use Rattle.cd.proofs.coherence_ratio_default.Statement.{statement}
 use Rattle.cd.proofs.coherence_ratio_default.Tie as tie
-
-coherence-ratio-requires : tie.Need-coherence-ratio-requires
-coherence-ratio-requires c κs = search needs
-
-same-length : tie.Need-same-length
-same-length c = search needs
 
 returns : tie.Need-returns
 returns c =
@@ -17,4 +11,4 @@ returns c =
     (at-coherence-ratio .coherence-ratio .ensures .0 ∙ default-same _ _ _ _ _ _ _ _, at-coherence-ratio .coherence-ratio .ensures .1 ∙ default-work _ _ _ _ _ _ _ _)
 
 pub coherence-ratio-default-spec : {M : Type 1} → statement M
-coherence-ratio-default-spec = tie.close (tie.spec coherence-ratio-requires same-length returns)
+coherence-ratio-default-spec = tie.close (tie.spec (λ c κs. search needs) (λ c. search needs) returns)

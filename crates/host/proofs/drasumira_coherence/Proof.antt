@@ -31,7 +31,6 @@ use denote.Ref.{RefT}
 use denote.Slice.{MutSlice, Room, slice-vals, shr-slice-tells, finally}
 use denote.Signature.{plain, typesAt}
 use denote.Steps.{owned, peeks, heard, nothing}
-use denote.Struct.Laws as LL
 use denote.Triple.Statement.{Contract, Triple}
 use denote.Triple.Call.{calls-at}
 use denote.Triple.Clauses.{ensured, lasts}
@@ -40,29 +39,31 @@ use denote.Triple.Spec.{Meets, tripleOf}
 use denote.Triple.Table.{entered, cited}
 use denote.Triple.Walked.{says, Stays, walkOf, hasOf, goes-dropped, Walks, ends-at, walked, walk-meets}
 use denote.Exit.{yes}
-use Rattle.bits.specs.Limits.{MOST-LANGUAGES}
-use Rattle.ranking.specs.declared.CoherenceMatch.{CoherenceMatch}
-use Rattle.ranking.specs.declared.Ranking.{Ranking}
-use Rattle.lent.specs.declared.HostRanking.{HostRanking}
-use Rattle.lent.specs.Lent.{answerOf, putInto}
-use Rattle.cd.specs.Fits.{ratio-fits}
-use Rattle.host.specs.MatchesLaws.{ratio-after}
-use Rattle.host.proofs.Lent.{Rest, work, matches, room, val, found, worked, shared, rest, rest-vals, rest-tell, gone, rest-kept, rest-stays, shared-goes, rest-go, rest-had, both}
-use Rattle.host.proofs.Tokens.{lfts-but-last, last-lft, shares-but-last, last-share, apart, together}
-use Rattle.ranking.proofs.CoherenceMatch as T
-use Rattle.ranking.proofs.Ranking as R
-use Rattle.ranking.proofs.Ranking.Laws as R′
-use Rattle.lent.proofs.HostRanking as N
-use Rattle.lent.proofs.HostRanking.Laws as N′
+use Rattle.base.specs.Limits.{MOST-LANGUAGES}
+use Rattle.cd_ranking.specs.declared.CoherenceMatch.{CoherenceMatch}
+use Rattle.cd_ranking.specs.declared.Ranking.{Ranking}
+use Rattle.cd_list.specs.declared.HostRanking.{HostRanking}
+use Rattle.base.specs.Put.{put as putAt}
+use Rattle.cd_list.specs.Inner.Lent.{matchesIn, answerOf}
+use Rattle.cd.proofs.Laws.Fits.{ratio-fits}
+use Rattle.host.proofs.Laws.Matches.{ratio-answer, ratio-after}
+use Rattle.host.proofs.Laws.Lent.{Rest, work, matches, room, val, found, worked, shared, rest, rest-vals, rest-tell, gone, rest-kept, rest-stays, shared-goes, rest-go, rest-had, both}
+use Rattle.host.proofs.Laws.Tokens.{lfts-but-last, last-lft, shares-but-last, last-share, apart, together}
+use Rattle.cd.proofs.coherence_ratio.Symbol.{name as #cd·coherence-ratio}
+use Rattle.cd_list.proofs.put.Symbol.{name as #cd_list·put}
+use Rattle.host.proofs.drasumira_coherence.Key.{name as #host·drasumira-coherence}
+use denote.Struct.Laws as LL
+use Rattle.cd_ranking.proofs.CoherenceMatch as T
+use Rattle.cd_ranking.proofs.Ranking as R
+use Rattle.cd_ranking.proofs.Ranking.Laws as R′
+use Rattle.cd_list.proofs.HostRanking as N
+use Rattle.cd_list.proofs.HostRanking.Laws as N′
 use Rattle.cd.proofs.coherence_ratio as ratio
 use Rattle.cd.proofs.coherence_ratio.Symbol as ratio-def
-use Rattle.cd.proofs.coherence_ratio.Symbol.{name as #cd·coherence-ratio}
 use Rattle.cd.proofs.coherence_ratio.Met as ratio-thm
-use Rattle.lent.proofs.put as put
-use Rattle.lent.proofs.put.Symbol as put-def
-use Rattle.lent.proofs.put.Symbol.{name as #lent·put}
-use Rattle.lent.proofs.put.Met as put-thm
-use Rattle.host.proofs.drasumira_coherence.Key.{name as #host·drasumira-coherence}
+use Rattle.cd_list.proofs.put as put
+use Rattle.cd_list.proofs.put.Symbol as put-def
+use Rattle.cd_list.proofs.put.Met as put-thm
 use Rattle.host.proofs.drasumira_coherence as f
 use Rattle.host.proofs.drasumira_coherence.Statement as stated
 use Rattle.host.proofs.drasumira_coherence.Code as code
@@ -157,7 +158,7 @@ module _ {M : Type 1} (𝓤 : URA M) (H : Heap 𝓤) (A : Atoms 𝓤) (W : Given
   asks-put r v e = qed W (‵ (flft κ q) ∷ ‵ OwnM ∷ ‵ (R.the-row .own r (v ∷ [])) ∷ []) ∵ says ! (fits r e) $ nothing ! $ move ! (1 ∷ 0 ∷ []) $ join ! $ nothing ! $ move ! (3 ∷ 0 ∷ []) $ fjoin ! $ move ! (2 ∷ 0 ∷ []) $ fjoin ! $ move ! (1 ∷ 0 ∷ []) $ done !
 
   abbrev PutTold : Ranking → HostRanking → List CoherenceMatch → Type 0
-  PutTold r w ms = (w ≡ answerOf r) × (ms ≡ putInto r (matches b .now)) × (length ms ≡ room b)
+  PutTold r w ms = (w ≡ answerOf r) × (ms ≡ putAt (matches b .now) 0 (matchesIn r)) × (length ms ≡ room b)
 
   abbrev Filled : Ranking → HostRanking → List CoherenceMatch → Item 𝓤
   Filled r w ms = ‵ (finally T.the-row (matches b .name) ms) ⊛ raw (fact 𝓤 (PutTold r w ms))
@@ -174,10 +175,10 @@ module _ {M : Type 1} (𝓤 : URA M) (H : Heap 𝓤) (A : Atoms 𝓤) (W : Given
       suffices ! _ (ends-at 𝓤 H A f.ended stayed (f.clauses 𝓤 H A at-mem run) W ((κs, qs, bounds, a, at), tt) u w (tt, (tt, (tt, (tt, (tt, (tt, (tt, (ws, (ms, tt))))))))) (tt, (tt, (tt, (tt, (tt, (tt, (tt, (h .2, (e .2, tt)))))))))) $
       use2 W (‵ (hasOf κs rest rest-kept rest-stays b (tt, (tt, (tt, (tt, (tt, (ws, (ms, tt))))))) (at .1 .1))) (rest-had 𝓤 H A W κs b (at .1 .1) ws ms) $ nothing ! $ fjoin ! $ nothing ! $ fjoin ! $
       move ! (1 ∷ 2 ∷ []) $ use2 W (raw (alive 𝓤 H A f.signature κs qs)) (together 𝓤 A 6 κs qs) $ move ! (1 ∷ 2 ∷ []) $ join ! $ move ! (1 ∷ 0 ∷ []) $ join ! $ frame ! $
-      by ! (both 𝓤 _ _ (factI 𝓤 _ (emp 𝓤) (e .0 ∙ ap answerOf (h .0))) (both 𝓤 _ _ (factI 𝓤 _ (emp 𝓤) (h .1)) (factI 𝓤 _ (emp 𝓤) (e .1 ∙ ap (λ (y : Ranking). putInto y (matches b .now)) (h .0)
+      by ! (both 𝓤 _ _ (factI 𝓤 _ (emp 𝓤) (e .0 ∙ ap answerOf (h .0) ∙ ratio-answer (text .now) threshold (b .0) (b .1 .0 .now) (b .1 .1 .0 .now) (b .1 .1 .1 .0 .now) (b .1 .1 .1 .1 .0 .now) (length (work b .now)) (matches b .now))) (both 𝓤 _ _ (factI 𝓤 _ (emp 𝓤) (h .1)) (factI 𝓤 _ (emp 𝓤) (e .1 ∙ ap (λ (y : Ranking). putAt (matches b .now) 0 (matchesIn y)) (h .0)
       ∙ ratio-after (text .now) threshold (b .0) (b .1 .0 .now) (b .1 .1 .0 .now) (b .1 .1 .1 .0 .now) (b .1 .1 .1 .1 .0 .now) (length (work b .now)) (matches b .now)))))
 
-  module _ (C : Calls 𝓤 H) (Λ : Loops 𝓤 H) (fm : FmC 𝓤 H (W .laws) C) (known-ratio : Triple 𝓤 (C #cd·coherence-ratio) (Ratio 𝓤 H A at-mem run)) (known-put : Triple 𝓤 (C #lent·put) (Put 𝓤 H A at-mem run)) where
+  module _ (C : Calls 𝓤 H) (Λ : Loops 𝓤 H) (fm : FmC 𝓤 H (W .laws) C) (known-ratio : Triple 𝓤 (C #cd·coherence-ratio) (Ratio 𝓤 H A at-mem run)) (known-put : Triple 𝓤 (C #cd_list·put) (Put 𝓤 H A at-mem run)) where
     abbrev passed : List Val
     passed = flat (typesAt (f.signature .params) κs) at
 
@@ -217,7 +218,7 @@ module _ {M : Type 1} (𝓤 : URA M) (H : Heap 𝓤) (A : Atoms 𝓤) (W : Given
         move ! (35 ∷ 36 ∷ []) $ free1 ! $ move ! (33 ∷ 34 ∷ []) $ free1 ! $ move ! (31 ∷ 32 ∷ []) $ free1 ! $ move ! (29 ∷ 30 ∷ []) $ free1 ! $ move ! (27 ∷ 28 ∷ []) $ free1 ! $ move ! (25 ∷ 26 ∷ []) $ free1 ! $ move ! (23 ∷ 24 ∷ []) $ free1 ! $ move ! (21 ∷ 22 ∷ []) $ free1 ! $ move ! (19 ∷ 20 ∷ []) $ free1 ! $ move ! (17 ∷ 18 ∷ []) $ free1 ! $ move ! (15 ∷ 16 ∷ []) $ free1 ! $ move ! (13 ∷ 14 ∷ []) $ free1 ! $ move ! (11 ∷ 12 ∷ []) $ free1 ! $ move ! (9 ∷ 10 ∷ []) $ free1 ! $ move ! (7 ∷ 8 ∷ []) $ free1 ! $ move ! (5 ∷ 6 ∷ []) $ free1 ! $ free0 ! $
         keep ! (4 ∷ 2 ∷ 3 ∷ 1 ∷ 0 ∷ []) $ by ! (exits r w u ws ms h e)))))))))))))))))))))))))))
 
-module _ {M : Type 1} (𝓤 : URA M) (H : Heap 𝓤) (A : Atoms 𝓤) (W : Given 𝓤 H A) (mem : Memory → SProp 𝓤) (run : Routine → Fun 𝓤) (𝓣 : Tables 𝓤 H) (known-ratio : Triple 𝓤 (𝓣 .C #cd·coherence-ratio) (Ratio 𝓤 H A mem run)) (known-put : Triple 𝓤 (𝓣 .C #lent·put) (Put 𝓤 H A mem run)) where
+module _ {M : Type 1} (𝓤 : URA M) (H : Heap 𝓤) (A : Atoms 𝓤) (W : Given 𝓤 H A) (mem : Memory → SProp 𝓤) (run : Routine → Fun 𝓤) (𝓣 : Tables 𝓤 H) (known-ratio : Triple 𝓤 (𝓣 .C #cd·coherence-ratio) (Ratio 𝓤 H A mem run)) (known-put : Triple 𝓤 (𝓣 .C #cd_list·put) (Put 𝓤 H A mem run)) where
   walks : Walks 𝓤 H A f.ended stayed (WpFn 𝓤 H (𝓣 .C) (𝓣 .Λ) code.function) (f.clauses 𝓤 H A mem run)
   walks = walked 𝓤 H A f.ended stayed (f.clauses 𝓤 H A mem run) (WpFn 𝓤 H (𝓣 .C) (𝓣 .Λ) code.function)
       (λ κs. (slice-vals, (float-vals binary32, rest-vals κs))) (λ κs. (shr-slice-tells (named 0) (κs .0) u32, (float-tells binary32, rest-tell κs)))
@@ -235,4 +236,4 @@ drasumira-coherence-spec 𝓤 H 𝓜 𝓖 𝓡 =
     (tables 𝓤 H 𝓜 𝓡 code.env .C) (tables 𝓤 H 𝓜 𝓡 code.env .Λ) #host·drasumira-coherence code.function (code.unfolded 𝓤 H 𝓜 𝓡)
     (meets 𝓤 H (𝓖 .A) (givenOf 𝓤 H 𝓜 𝓖) (𝓜 .mem) (𝓡 .run) (tablesOf 𝓤 H 𝓜 (tables 𝓤 H 𝓜 𝓡 code.env))
     (cited 𝓤 H (Ratio 𝓤 H (𝓖 .A) (𝓜 .mem) (𝓡 .run)) 𝓜 𝓡 code.env #cd·coherence-ratio ratio-def.routine code.calls-cd·coherence-ratio (ratio-thm.met 𝓤 H 𝓜 𝓖 𝓡))
-    (cited 𝓤 H (Put 𝓤 H (𝓖 .A) (𝓜 .mem) (𝓡 .run)) 𝓜 𝓡 code.env #lent·put put-def.routine code.calls-lent·put (put-thm.met 𝓤 H 𝓜 𝓖 𝓡)))
+    (cited 𝓤 H (Put 𝓤 H (𝓖 .A) (𝓜 .mem) (𝓡 .run)) 𝓜 𝓡 code.env #cd_list·put put-def.routine code.calls-cd-list·put (put-thm.met 𝓤 H 𝓜 𝓖 𝓡)))

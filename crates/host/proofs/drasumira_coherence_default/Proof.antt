@@ -30,7 +30,6 @@ use denote.Ref.{RefT}
 use denote.Slice.{Room, slice-vals, shr-slice-tells, finally}
 use denote.Signature.{typesAt}
 use denote.Steps.{owned, peeks, heard, nothing}
-use denote.Struct.Laws as LL
 use denote.Triple.Statement.{Contract, Triple}
 use denote.Triple.Call.{calls-at}
 use denote.Triple.Clauses.{ensured, lasts}
@@ -38,21 +37,21 @@ use denote.Triple.Entry.{alive, onEntry}
 use denote.Triple.Spec.{Meets, tripleOf}
 use denote.Triple.Table.{entered, cited}
 use denote.Triple.Walked.{says, Stays, hasOf, walkOf, Walks, ends-at, walked, walk-meets}
-use Rattle.ranking.specs.declared.CoherenceMatch.{CoherenceMatch}
-use Rattle.lent.specs.declared.HostRanking.{HostRanking}
-use Rattle.lent.specs.Lent.{answerOf}
+use Rattle.cd_ranking.specs.declared.CoherenceMatch.{CoherenceMatch}
+use Rattle.cd_list.specs.declared.HostRanking.{HostRanking}
 use Rattle.cd.specs.Coherence.{DEFAULT-THRESHOLD}
-use Rattle.cd.specs.CoherenceLaws.{default-same, default-work}
-use Rattle.host.specs.MatchesLaws.{default-after}
-use Rattle.host.proofs.Lent.{Rest, work, matches, room, val, found, worked, matched, shared, rest, rest-vals, rest-tell, gone, rest-kept, rest-stays, shared-goes, rest-go, rest-had, both}
-use Rattle.ranking.proofs.CoherenceMatch as T
-use Rattle.lent.proofs.HostRanking as N
-use Rattle.lent.proofs.HostRanking.Laws as N′
+use Rattle.cd.proofs.Laws.Coherence.{default-work}
+use Rattle.host.proofs.Laws.Matches.{default-answer, default-after}
+use Rattle.host.proofs.Laws.Lent.{Rest, work, matches, room, val, answer, worked, matched, shared, rest, rest-vals, rest-tell, gone, rest-kept, rest-stays, shared-goes, rest-go, rest-had, both}
+use Rattle.host.proofs.drasumira_coherence.Symbol.{name as #host·drasumira-coherence}
+use Rattle.host.proofs.drasumira_coherence_default.Key.{name as #host·drasumira-coherence-default}
+use denote.Struct.Laws as LL
+use Rattle.cd_ranking.proofs.CoherenceMatch as T
+use Rattle.cd_list.proofs.HostRanking as N
+use Rattle.cd_list.proofs.HostRanking.Laws as N′
 use Rattle.host.proofs.drasumira_coherence as entry
 use Rattle.host.proofs.drasumira_coherence.Symbol as entry-def
-use Rattle.host.proofs.drasumira_coherence.Symbol.{name as #host·drasumira-coherence}
 use Rattle.host.proofs.drasumira_coherence.Met as entry-thm
-use Rattle.host.proofs.drasumira_coherence_default.Key.{name as #host·drasumira-coherence-default}
 use Rattle.host.proofs.drasumira_coherence_default as f
 use Rattle.host.proofs.drasumira_coherence_default.Statement as stated
 use Rattle.host.proofs.drasumira_coherence_default.Code as code
@@ -100,7 +99,7 @@ module _ {M : Type 1} (𝓤 : URA M) (H : Heap 𝓤) (A : Atoms 𝓤) (W : Given
 
   abbrev Told : HostRanking → List ℕ → List CoherenceMatch → Type 0
   Told w ws ms =
-      (w ≡ answerOf (found (text .now) DEFAULT-THRESHOLD b)) × (ws ≡ worked (text .now) DEFAULT-THRESHOLD b) × (ms ≡ matched (text .now) DEFAULT-THRESHOLD b)
+      (w ≡ answer (text .now) DEFAULT-THRESHOLD b) × (ws ≡ worked (text .now) DEFAULT-THRESHOLD b) × (ms ≡ matched (text .now) DEFAULT-THRESHOLD b)
       × (length ws ≡ length (work b .now)) × (length ms ≡ room b)
 
   abbrev Last : HostRanking → List ℕ × List CoherenceMatch → Item 𝓤
@@ -121,7 +120,7 @@ module _ {M : Type 1} (𝓤 : URA M) (H : Heap 𝓤) (A : Atoms 𝓤) (W : Given
       suffices ! _ (ends-at 𝓤 H A f.ended stayed (f.clauses 𝓤 H A at-mem run) W ((κs, qs, bounds, a, at), tt) u w (tt, (tt, (tt, (tt, (tt, (tt, (ws, (ms, tt)))))))) (tt, (tt, (tt, (tt, (tt, (tt, (h .3, (h .4, tt))))))))) $
       use2 W (‵ (hasOf κs rest rest-kept rest-stays b (tt, (tt, (tt, (tt, (tt, (ws, (ms, tt))))))) vals)) (rest-had 𝓤 H A W κs b vals ws ms) $ nothing ! $ fjoin ! $
       move ! (0 ∷ 2 ∷ []) $ join ! $ move ! (1 ∷ 0 ∷ []) $ join ! $ frame ! $
-      by ! (both 𝓤 _ _ (factI 𝓤 _ (emp 𝓤) (h .0 ∙ ap answerOf (default-same (text .now) (b .0) (b .1 .0 .now) (b .1 .1 .0 .now) (b .1 .1 .1 .0 .now) (b .1 .1 .1 .1 .0 .now) (length (work b .now)) (room b))))
+      by ! (both 𝓤 _ _ (factI 𝓤 _ (emp 𝓤) (h .0 ∙ default-answer (text .now) (b .0) (b .1 .0 .now) (b .1 .1 .0 .now) (b .1 .1 .1 .0 .now) (b .1 .1 .1 .1 .0 .now) (length (work b .now)) (matches b .now)))
       (both 𝓤 _ _ (factI 𝓤 _ (emp 𝓤) (h .1 ∙ default-work (text .now) (b .1 .0 .now) (b .1 .1 .0 .now) (b .1 .1 .1 .0 .now) (b .1 .1 .1 .1 .0 .now) (work b .now) (length (work b .now)) (room b)))
       (factI 𝓤 _ (emp 𝓤) (h .2 ∙ default-after (text .now) (b .0) (b .1 .0 .now) (b .1 .1 .0 .now) (b .1 .1 .1 .0 .now) (b .1 .1 .1 .1 .0 .now) (length (work b .now)) (matches b .now)))))
 

@@ -3,14 +3,8 @@ use borrow.Author.Needs.{needs}
 use Rattle.host.proofs.drasumira_verdict.Statement.{statement}
 use Rattle.host.proofs.drasumira_verdict.Tie as tie
 
-verdict-requires : tie.Need-verdict-requires
-verdict-requires c κs = search needs
-
-flat-judged-requires : tie.Need-flat-judged-requires
-flat-judged-requires c κs = search needs
-
 returns : tie.Need-returns
 returns c = cc
 
 pub drasumira-verdict-spec : {M : Type 1} → statement M
-drasumira-verdict-spec = tie.close (tie.spec verdict-requires flat-judged-requires returns)
+drasumira-verdict-spec = tie.close (tie.spec (λ c κs. search needs) (λ c κs. search needs) returns)

@@ -1,24 +1,36 @@
 -- The same causes as the default call's, and a scan that never stops. Assumes nothing.
-use mathlib.Core.Path.{_∙_}
-use Rattle.md.specs.MessRatioLaws.{long, not-long}
-use Rattle.md.specs.MessRatio.{wholeScore}
+use mathlib.Core.Path.{sym, _∙_}
+use Rattle.md.proofs.Laws.Lent.{free-checked}
+use Rattle.md.proofs.Laws.MessRatio.{whole-long, whole-lent, whole-scan}
 use borrow.Author.Needs.{needs}
 use Rattle.md.proofs.whole_score.Statement.{statement}
 use Rattle.md.proofs.whole_score.Tie as tie
 
-refuse-requires : tie.Need-refuse-requires
-refuse-requires c κs = search needs
-
 returns : tie.Need-returns
-unfolding wholeScore
-returns c = c .refuse .ensures ∙ long _ _ (c .before .if1 .taken)
+returns c = c .refuse .ensures ∙ whole-long _ _ _ (c .before .if1 .taken)
 
-scan-with-requires : tie.Need-scan-with-requires
-scan-with-requires c κs = search needs
+scan-text-requires : tie.Need-scan-text-requires
+scan-text-requires c κs =
+    (free-checked _ _ (sym (c .before .before .check-tables .ensures) ∙ c .enum-told .given .1), c .before .before .before .if1 .left)
 
 returns-2 : tie.Need-returns-2
-unfolding wholeScore
-returns-2 c = c .scan-with .ensures ∙ not-long _ _ (c .before .if1 .left)
+returns-2 c =
+    whole-lent _ _ _ (c .before .before .before .before .if1 .left) _ (sym (c .before .before .before .check-tables .ensures) ∙ c .before .why .given .1)
+
+returns-3 : tie.Need-returns-3
+returns-3 c =
+    c .scan-text .ensures
+    ∙ whole-scan _ _ _ (c .before .before .before .before .if1 .left) (sym (c .before .before .before .check-tables .ensures) ∙ c .before .enum-told .given .1)
 
 pub whole-score-spec : {M : Type 1} → statement M
-whole-score-spec = tie.close (tie.spec refuse-requires returns scan-with-requires returns-2)
+whole-score-spec =
+    tie.close
+    (tie.spec
+    (λ c κs. search needs)
+    returns
+    (λ c κs. search needs)
+    (λ c. search needs)
+    (λ c. search needs)
+    scan-text-requires
+    returns-2
+    returns-3)

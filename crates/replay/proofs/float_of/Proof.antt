@@ -10,11 +10,5 @@ use Rattle.replay.proofs.float_of.Tie as tie
 float-from-bits-result : tie.Need-float-from-bits-result
 float-from-bits-result c = rw (nanBits-above binary32 (c .before .args .bits), le-ltb (ones binary32 * hid binary32) (c .before .args .bits % top binary32) (c .if1 .left)) tt
 
-returns : tie.Need-returns
-returns c = search needs
-
-returns-2 : tie.Need-returns-2
-returns-2 c = search needs
-
 pub float-of-spec : {M : Type 1} → statement M
-float-of-spec = tie.close (tie.spec float-from-bits-result returns returns-2)
+float-of-spec = tie.close (tie.spec float-from-bits-result (λ c. search needs) (λ c. search needs))

@@ -1,59 +1,33 @@
--- The case is cut to the buffer, so the part that is read into is as long as was counted. Assumes nothing.
+-- Each case that is counted takes one of the turns that are left. Assumes nothing.
+use mathlib.Core.Path.{refl}
 use native.Mathlib.Omega.{arith}
-use lib.ListN.{length-take}
 use borrow.Author.Needs.{needs}
+use Rattle.replay.proofs.Laws.Tally.{turns-end, turns-less}
 use Rattle.replay.proofs.next_case.Statement.{statement}
 use Rattle.replay.proofs.next_case.Tie as tie
 
-slice-aggregate-read-full : tie.Need-slice-aggregate-read-full
-slice-aggregate-read-full c = search needs
-
-read-full-requires : tie.Need-read-full-requires
-read-full-requires c κs = search needs
-
 returns : tie.Need-returns
-returns c = search needs
-
-slice-aggregate-word : tie.Need-slice-aggregate-word
-slice-aggregate-word c = search needs
-
-word-requires : tie.Need-word-requires
-word-requires c κs = search needs
-
-cast-least : tie.Need-cast-least
-cast-least c = search needs
-
-least-requires : tie.Need-least-requires
-least-requires c κs = search needs
-
-slice-relend-prefix-read-full : tie.Need-slice-relend-prefix-read-full
-slice-relend-prefix-read-full c = search needs
-
-slice-aggregate-read-full-2 : tie.Need-slice-aggregate-read-full-2
-slice-aggregate-read-full-2 c = simp length-take (omega arith)
-
-read-full-requires-2 : tie.Need-read-full-requires-2
-read-full-requires-2 c κs = search needs
-
-same-length : tie.Need-same-length
-same-length c = search needs
+returns c =
+    let called = c .before .before .before .before in
+    let count = c .before .before .counted .ensures in
+    record {
+      sound = record { few = count .sound .few; some = count .sound .some };
+      fits = record { within = omega arith; same = refl };
+      less = turns-end _ _ (called .pre .1) refl;
+    }
 
 returns-2 : tie.Need-returns-2
-returns-2 c = search needs
+returns-2 c =
+    let read = c .before .before in
+    let counting = read .before .before .before .before in
+    let called = counting .before .before in
+    let count = counting .counted .ensures in
+    record {
+      sound = record { few = count .sound .few; some = count .sound .some };
+      fits = read .read-case .ensures;
+      less = turns-less _ _ (called .pre .1) (count .one (omega (arith, count .more, read .before .before .if1 .left))) (count .sound .few);
+    }
 
 pub next-case-spec : {M : Type 1} → statement M
 next-case-spec =
-    tie.close
-    (tie.spec
-    slice-aggregate-read-full
-    read-full-requires
-    returns
-    slice-aggregate-word
-    word-requires
-    cast-least
-    least-requires
-    slice-relend-prefix-read-full
-    slice-aggregate-read-full-2
-    read-full-requires-2
-    same-length
-    returns-2)
+    tie.close (tie.spec (λ c κs. search needs) returns (λ c κs. search needs) (λ c. search needs) returns-2)

@@ -1,62 +1,29 @@
--- The loop ends after MOST_CASES cases at the latest; at most each of them differs. Assumes nothing.
-use lib.ListN.{length-replicate, length, length-take}
-use Prim.Native.Nat.{ℕ, _≤_, _-_}
-use mathlib.Core.Path.{_≡_}
-use native.Mathlib.Omega.{arith}
+-- The loop of every replay (`Replaying`). What is lent beside the buffer keeps its length. Assumes nothing.
+use Prim.Native.Nat.{ℕ}
+use mathlib.Core.Path.{_≡_, _∙_}
+use lib.ListN.{length, length-replicate}
 use borrow.Author.Needs.{needs}
+use Rattle.replay.specs.Inner.Tally.{turns}
+use Rattle.replay.proofs.Loops.Replaying.{Replaying, replaying-case}
+use Rattle.replay_classes.specs.Inner.Sizes.{CASE-BYTES, MADE-BYTES}
 use Rattle.replay_classes.proofs.main.Statement.{statement}
 use Rattle.replay_classes.proofs.main.Tie as tie
 
 abbrev Inv-loop : tie.InvT-loop
-Inv-loop buf₀ made₀ cases₀ differ₀ first₀ buf made cases differ first = (length buf ≡ 262144) × (length made ≡ 196632) × (cases ≤ 100000) × (differ ≤ cases)
+Inv-loop buf₀ made₀ t₀ buf made t = Replaying CASE-BYTES buf t × (length made ≡ MADE-BYTES)
 
 abbrev μ-loop : tie.MeasureT-loop
-μ-loop buf₀ made₀ cases₀ differ₀ first₀ buf made cases differ first = 100000 - cases
+μ-loop buf₀ made₀ t₀ buf made t = turns t
 
 loop-holds : tie.Need-loop-holds Inv-loop μ-loop
-loop-holds c = (length-replicate {A = ℕ} 262144 0, length-replicate {A = ℕ} 196632 0, omega arith, omega arith)
-
-slice-aggregate-next-case : tie.Need-slice-aggregate-next-case Inv-loop μ-loop
-slice-aggregate-next-case c = search needs
-
-next-case-requires : tie.Need-next-case-requires Inv-loop μ-loop
-next-case-requires c κs = search needs
-
-add-cases : tie.Need-add-cases Inv-loop μ-loop
-add-cases c = search needs
-
-array-share-prefix-buf : tie.Need-array-share-prefix-buf Inv-loop μ-loop
-array-share-prefix-buf c = search needs
+loop-holds c =
+    let started = c .before .first-case .ensures in (
+      record { size = started .fits .same ∙ length-replicate {A = ℕ} CASE-BYTES 0; sound = started .sound; within = started .fits .within },
+      length-replicate {A = ℕ} MADE-BYTES 0,
+    )
 
 slice-aggregate-same-case : tie.Need-slice-aggregate-same-case Inv-loop μ-loop
-slice-aggregate-same-case c = simp length-take (omega arith)
-
-slice-aggregate-same-case-2 : tie.Need-slice-aggregate-same-case-2 Inv-loop μ-loop
-slice-aggregate-same-case-2 c = search needs
-
-same-case-requires : tie.Need-same-case-requires Inv-loop μ-loop
-same-case-requires c κs = search needs
-
-pick-requires : tie.Need-pick-requires Inv-loop μ-loop
-pick-requires c κs = search needs
-
-one-requires : tie.Need-one-requires Inv-loop μ-loop
-one-requires c κs = search needs
-
-add-differ : tie.Need-add-differ Inv-loop μ-loop
-add-differ c = search needs
-
-loop-less : tie.Need-loop-less Inv-loop μ-loop
-loop-less c = search needs
-
-loop-again : tie.Need-loop-again Inv-loop μ-loop
-loop-again c = search needs
-
-say-requires : tie.Need-say-requires Inv-loop μ-loop
-say-requires c κs = search needs
-
-returns : tie.Need-returns Inv-loop μ-loop
-returns c = search needs
+slice-aggregate-same-case c = replaying-case (c .before .before .before .loop .inv .0)
 
 pub main-spec : {M : Type 1} → statement M
 main-spec =
@@ -64,18 +31,16 @@ main-spec =
     (tie.spec
     Inv-loop
     μ-loop
+    (λ c. search needs)
+    (λ c κs. search needs)
     loop-holds
-    slice-aggregate-next-case
-    next-case-requires
-    add-cases
-    array-share-prefix-buf
+    (λ c. search needs)
     slice-aggregate-same-case
-    slice-aggregate-same-case-2
-    same-case-requires
-    pick-requires
-    one-requires
-    add-differ
-    loop-less
-    loop-again
-    say-requires
-    returns)
+    (λ c. search needs)
+    (λ c κs. search needs)
+    (λ c. search needs)
+    (λ c κs. search needs)
+    (λ c. search needs)
+    (λ c. search needs)
+    (λ c κs. search needs)
+    (λ c. search needs))

@@ -1,11 +1,12 @@
--- The loop ends after MOST_CASES cases at the latest; at most each of them differs; the lent lists keep their lengths.
--- Assumes nothing.
-use Prim.Native.Nat.{ℕ, _≤_, _-_}
-use mathlib.Core.Path.{_≡_}
-use native.Mathlib.Omega.{arith}
-use lib.ListN.{length, length-take}
+-- The loop of every replay (`Replaying`). What is lent beside the buffer keeps its length. Assumes nothing.
 use borrow.Author.Needs.{needs}
-use Rattle.bits.specs.Limits.{LONGEST-RANKED, LANGUAGE-LETTERS}
+use Rattle.base.specs.Inner.Limits.{MOST-LETTERS}
+use Rattle.base.specs.Limits.{LANGUAGE-LETTERS}
+use Prim.Native.Nat.{ℕ}
+use mathlib.Core.Path.{_≡_}
+use lib.ListN.{length}
+use Rattle.replay.specs.Inner.Tally.{turns}
+use Rattle.replay.proofs.Loops.Replaying.{Replaying, replaying-case}
 use Rattle.replay_jaro.proofs.main.Statement.{statement}
 use Rattle.replay_jaro.proofs.main.Tie as tie
 
@@ -13,62 +14,14 @@ use Rattle.replay_jaro.proofs.main.Tie as tie
 abbrev CASE-BYTES : ℕ
 CASE-BYTES = 33824
 
-abbrev MOST-CASES : ℕ
-MOST-CASES = 100000
-
 abbrev Inv-loop : tie.InvT-loop
-Inv-loop buf₀ layer₀ language₀ cases₀ differ₀ first₀ buf layer language cases differ first = (length buf ≡ CASE-BYTES) × (length layer ≡ LONGEST-RANKED) × (length language ≡ LANGUAGE-LETTERS) × (cases ≤ MOST-CASES) × (differ ≤ cases)
+Inv-loop buf₀ layer₀ language₀ t₀ buf layer language t = Replaying CASE-BYTES buf t × (length layer ≡ MOST-LETTERS) × (length language ≡ LANGUAGE-LETTERS)
 
 abbrev μ-loop : tie.MeasureT-loop
-μ-loop buf₀ layer₀ language₀ cases₀ differ₀ first₀ buf layer language cases differ first = MOST-CASES - cases
-
-loop-holds : tie.Need-loop-holds Inv-loop μ-loop
-loop-holds c = search needs
-
-slice-aggregate-next-case : tie.Need-slice-aggregate-next-case Inv-loop μ-loop
-slice-aggregate-next-case c = search needs
-
-next-case-requires : tie.Need-next-case-requires Inv-loop μ-loop
-next-case-requires c κs = search needs
-
-add-cases : tie.Need-add-cases Inv-loop μ-loop
-add-cases c = search needs
-
-array-share-prefix-buf : tie.Need-array-share-prefix-buf Inv-loop μ-loop
-array-share-prefix-buf c = search needs
+μ-loop buf₀ layer₀ language₀ t₀ buf layer language t = turns t
 
 slice-aggregate-same-case : tie.Need-slice-aggregate-same-case Inv-loop μ-loop
-slice-aggregate-same-case c = simp length-take (omega arith)
-
-slice-aggregate-same-case-2 : tie.Need-slice-aggregate-same-case-2 Inv-loop μ-loop
-slice-aggregate-same-case-2 c = search needs
-
-slice-aggregate-same-case-3 : tie.Need-slice-aggregate-same-case-3 Inv-loop μ-loop
-slice-aggregate-same-case-3 c = search needs
-
-same-case-requires : tie.Need-same-case-requires Inv-loop μ-loop
-same-case-requires c κs = search needs
-
-pick-requires : tie.Need-pick-requires Inv-loop μ-loop
-pick-requires c κs = search needs
-
-one-requires : tie.Need-one-requires Inv-loop μ-loop
-one-requires c κs = search needs
-
-add-differ : tie.Need-add-differ Inv-loop μ-loop
-add-differ c = search needs
-
-loop-less : tie.Need-loop-less Inv-loop μ-loop
-loop-less c = search needs
-
-loop-again : tie.Need-loop-again Inv-loop μ-loop
-loop-again c = search needs
-
-say-requires : tie.Need-say-requires Inv-loop μ-loop
-say-requires c κs = search needs
-
-returns : tie.Need-returns Inv-loop μ-loop
-returns c = search needs
+slice-aggregate-same-case c = replaying-case (c .before .before .before .loop .inv .0)
 
 pub main-spec : {M : Type 1} → statement M
 main-spec =
@@ -76,19 +29,17 @@ main-spec =
     (tie.spec
     Inv-loop
     μ-loop
-    loop-holds
-    slice-aggregate-next-case
-    next-case-requires
-    add-cases
-    array-share-prefix-buf
+    (λ c. search needs)
+    (λ c κs. search needs)
+    (λ c. search needs)
+    (λ c. search needs)
     slice-aggregate-same-case
-    slice-aggregate-same-case-2
-    slice-aggregate-same-case-3
-    same-case-requires
-    pick-requires
-    one-requires
-    add-differ
-    loop-less
-    loop-again
-    say-requires
-    returns)
+    (λ c. search needs)
+    (λ c. search needs)
+    (λ c κs. search needs)
+    (λ c. search needs)
+    (λ c κs. search needs)
+    (λ c. search needs)
+    (λ c. search needs)
+    (λ c κs. search needs)
+    (λ c. search needs))

@@ -6,7 +6,7 @@ use native.Mathlib.Omega.{arith}
 use lib.Ieee.{binary64, ones, hid, top, ofBits}
 use lib.Ieee.Bits.{nanBits-above}
 use borrow.Author.Tests.{le-ltb}
-use Rattle.narrow.specs.Nearest.{NOUGHT, EIGHTH, ONE}
+use Rattle.f32_nearest.specs.Inner.Nearest.{NOUGHT, EIGHTH, ONE}
 use Rattle.replay_jaro.proofs.number_of.Statement.{statement}
 use Rattle.replay_jaro.proofs.number_of.Tie as tie
 

@@ -1,7 +1,7 @@
 -- The first i words are ranges. Assumes nothing.
 use Prim.Native.Nat.{_-_}
 use native.Mathlib.Omega.{arith}
-use Rattle.replay_layers.specs.Filling.{Filling, fill-start, fill-on, fill-end}
+use Rattle.replay_layers.proofs.Loops.Filling.{Filling, fill-start, fill-on, fill-end}
 use borrow.Author.Needs.{needs}
 use Rattle.replay_layers.proofs.set_ranges.Statement.{statement}
 use Rattle.replay_layers.proofs.set_ranges.Tie as tie
@@ -15,29 +15,8 @@ abbrev μ-loop : tie.MeasureT-loop
 loop-holds : tie.Need-loop-holds Inv-loop μ-loop
 loop-holds c = fill-start _ _
 
-add-word : tie.Need-add-word Inv-loop μ-loop
-add-word c = search needs
-
-word-requires : tie.Need-word-requires Inv-loop μ-loop
-word-requires c κs = search needs
-
-mul-work : tie.Need-mul-work Inv-loop μ-loop
-mul-work c = search needs
-
-slice-write-work : tie.Need-slice-write-work Inv-loop μ-loop
-slice-write-work c = search needs
-
-add-i : tie.Need-add-i Inv-loop μ-loop
-add-i c = search needs
-
-loop-less : tie.Need-loop-less Inv-loop μ-loop
-loop-less c = search needs
-
 loop-again : tie.Need-loop-again Inv-loop μ-loop
 loop-again c = fill-on _ _ (c .before .before .loop .inv) (c .before .before .before .before .before .pre .1) _ (c .before .loop-test .taken) (omega arith)
-
-same-length : tie.Need-same-length Inv-loop μ-loop
-same-length c = search needs
 
 returns : tie.Need-returns Inv-loop μ-loop
 returns c = fill-end _ _ (c .before .loop .inv) (c .before .before .before .before .pre .1) (c .loop-test .left)
@@ -49,12 +28,12 @@ set-ranges-spec =
     Inv-loop
     μ-loop
     loop-holds
-    add-word
-    word-requires
-    mul-work
-    slice-write-work
-    add-i
-    loop-less
+    (λ c. search needs)
+    (λ c κs. search needs)
+    (λ c. search needs)
+    (λ c. search needs)
+    (λ c. search needs)
+    (λ c. search needs)
     loop-again
-    same-length
+    (λ c. search needs)
     returns)

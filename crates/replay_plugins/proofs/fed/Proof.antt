@@ -3,8 +3,7 @@ use Prim.Native.Nat.{_≤_, _-_}
 use native.Mathlib.Omega.{arith}
 use borrow.Author.Needs.{needs}
 use lib.ListN.{length}
-use Rattle.plugins.specs.DetectorsLaws.{Within, start-within, feed-within, within-room}
-use Rattle.replay_plugins.specs.Ready.{within-ready}
+use Rattle.md_eight.proofs.Loops.Detectors.{Within, start-within, feed-within, within-room, within-countable}
 use Rattle.replay_plugins.proofs.fed.Statement.{statement}
 use Rattle.replay_plugins.proofs.fed.Tie as tie
 
@@ -14,35 +13,14 @@ Inv-loop case text s₀ i₀ s i = (i ≤ length text) × Within i s
 abbrev μ-loop : tie.MeasureT-loop
 μ-loop case text s₀ i₀ s i = length text - i
 
-start-requires : tie.Need-start-requires Inv-loop μ-loop
-start-requires c κs = search needs
-
 loop-holds : tie.Need-loop-holds Inv-loop μ-loop
 loop-holds c =
     (omega arith, rw (c .start .ensures) start-within)
-
-shared-slice-read-k : tie.Need-shared-slice-read-k Inv-loop μ-loop
-shared-slice-read-k c = search needs
-
-letter-requires : tie.Need-letter-requires Inv-loop μ-loop
-letter-requires c κs = search needs
-
-last-range-requires : tie.Need-last-range-requires Inv-loop μ-loop
-last-range-requires c κs = search needs
-
-suspicious-requires : tie.Need-suspicious-requires Inv-loop μ-loop
-suspicious-requires c κs = search needs
 
 feed-requires : tie.Need-feed-requires Inv-loop μ-loop
 feed-requires c κs =
     let at = c .before .before .before .before .before in
     within-room (at .loop .i) (at .loop .s) (at .loop .inv .1) (omega arith)
-
-add-i : tie.Need-add-i Inv-loop μ-loop
-add-i c = search needs
-
-loop-less : tie.Need-loop-less Inv-loop μ-loop
-loop-less c = search needs
 
 loop-again : tie.Need-loop-again Inv-loop μ-loop
 loop-again c =
@@ -52,7 +30,7 @@ loop-again c =
 returns : tie.Need-returns Inv-loop μ-loop
 returns c =
     let at = c .before in
-    within-ready (at .loop .i) (at .loop .s) (at .loop .inv .1) (omega arith)
+    within-countable (at .loop .i) (at .loop .s) (at .loop .inv .1) (omega arith)
 
 pub fed-spec : {M : Type 1} → statement M
 fed-spec =
@@ -60,14 +38,14 @@ fed-spec =
     (tie.spec
     Inv-loop
     μ-loop
-    start-requires
+    (λ c κs. search needs)
     loop-holds
-    shared-slice-read-k
-    letter-requires
-    last-range-requires
-    suspicious-requires
+    (λ c. search needs)
+    (λ c κs. search needs)
+    (λ c κs. search needs)
+    (λ c κs. search needs)
     feed-requires
-    add-i
-    loop-less
+    (λ c. search needs)
+    (λ c. search needs)
     loop-again
     returns)

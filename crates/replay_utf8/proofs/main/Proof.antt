@@ -1,90 +1,55 @@
--- The loop ends after MOST_CASES cases at the latest; at most each of them differs, and the three arrays keep their lengths. Assumes nothing.
+-- The loop of every replay (`Replaying`). What is lent beside the buffer keeps its length. Assumes nothing.
 use mathlib.Core.Path.{_≡_, _∙_}
 use Prim.Native.Nat.{ℕ, _≤_, _-_}
 use native.Mathlib.Omega.{arith}
 use lib.Seq.{length-front}
 use lib.ListN.{length, length-take, length-replicate}
 use borrow.Author.Needs.{needs}
+use Rattle.replay.specs.Inner.Tally.{turns}
+use Rattle.replay.proofs.Loops.Replaying.{Replaying, replaying-case}
+use Rattle.replay_utf8.specs.Inner.Sizes.{CASE-BYTES, INPUT, OUTPUT}
 use Rattle.replay_utf8.proofs.main.Statement.{statement}
 use Rattle.replay_utf8.proofs.main.Tie as tie
 
 abbrev Inv-loop : tie.InvT-loop
-Inv-loop buf₀ input₀ out₀ cases₀ differ₀ first₀ buf input out cases differ first = (length buf ≡ 1024) × (length input ≡ 262145) × (length out ≡ 65537) × (cases ≤ 100000) × (differ ≤ cases)
+Inv-loop buf₀ input₀ out₀ t₀ buf input out t = Replaying CASE-BYTES buf t × (length input ≡ INPUT) × (length out ≡ OUTPUT)
 
 abbrev μ-loop : tie.MeasureT-loop
-μ-loop buf₀ input₀ out₀ cases₀ differ₀ first₀ buf input out cases differ first = 100000 - cases
+μ-loop buf₀ input₀ out₀ t₀ buf input out t = turns t
 
 loop-holds : tie.Need-loop-holds Inv-loop μ-loop
-loop-holds c = (length-replicate {A = ℕ} 1024 0, length-replicate {A = ℕ} 262145 0, length-replicate {A = ℕ} 65537 0, omega arith, omega arith)
-
-slice-aggregate-next-case : tie.Need-slice-aggregate-next-case Inv-loop μ-loop
-slice-aggregate-next-case c = search needs
-
-next-case-requires : tie.Need-next-case-requires Inv-loop μ-loop
-next-case-requires c κs = search needs
-
-add-cases : tie.Need-add-cases Inv-loop μ-loop
-add-cases c = search needs
-
-array-share-prefix-buf : tie.Need-array-share-prefix-buf Inv-loop μ-loop
-array-share-prefix-buf c = search needs
+loop-holds c =
+    let started = c .before .first-case .ensures in (
+      record { size = started .fits .same ∙ length-replicate {A = ℕ} CASE-BYTES 0; sound = started .sound; within = started .fits .within },
+      length-replicate {A = ℕ} INPUT 0,
+      length-replicate {A = ℕ} OUTPUT 0,
+    )
 
 slice-aggregate-input-size : tie.Need-slice-aggregate-input-size Inv-loop μ-loop
-slice-aggregate-input-size c = simp length-take (omega arith)
-
-input-size-requires : tie.Need-input-size-requires Inv-loop μ-loop
-input-size-requires c κs = search needs
-
-array-share-prefix-buf-2 : tie.Need-array-share-prefix-buf-2 Inv-loop μ-loop
-array-share-prefix-buf-2 c = search needs
+slice-aggregate-input-size c = replaying-case (c .before .before .before .loop .inv .0)
 
 slice-aggregate-room-of : tie.Need-slice-aggregate-room-of Inv-loop μ-loop
-slice-aggregate-room-of c = simp length-take (omega arith)
-
-room-of-requires : tie.Need-room-of-requires Inv-loop μ-loop
-room-of-requires c κs = search needs
-
-array-share-prefix-buf-3 : tie.Need-array-share-prefix-buf-3 Inv-loop μ-loop
-array-share-prefix-buf-3 c = search needs
+slice-aggregate-room-of c = replaying-case (c .before .before .before .before .before .loop .inv .0)
 
 slice-aggregate-same-case : tie.Need-slice-aggregate-same-case Inv-loop μ-loop
-slice-aggregate-same-case c = simp length-take (omega arith)
-
-array-borrow-prefix-input : tie.Need-array-borrow-prefix-input Inv-loop μ-loop
-array-borrow-prefix-input c = search needs
+slice-aggregate-same-case c = replaying-case (c .before .before .before .before .before .before .before .loop .inv .0)
 
 slice-aggregate-same-case-2 : tie.Need-slice-aggregate-same-case-2 Inv-loop μ-loop
 slice-aggregate-same-case-2 c = simp length-take (omega arith)
 
-array-borrow-prefix-out : tie.Need-array-borrow-prefix-out Inv-loop μ-loop
-array-borrow-prefix-out c = search needs
-
 slice-aggregate-same-case-3 : tie.Need-slice-aggregate-same-case-3 Inv-loop μ-loop
 slice-aggregate-same-case-3 c = simp length-take (omega arith)
 
-same-case-requires : tie.Need-same-case-requires Inv-loop μ-loop
-same-case-requires c κs = search needs
-
-pick-requires : tie.Need-pick-requires Inv-loop μ-loop
-pick-requires c κs = search needs
-
-one-requires : tie.Need-one-requires Inv-loop μ-loop
-one-requires c κs = search needs
-
-add-differ : tie.Need-add-differ Inv-loop μ-loop
-add-differ c = search needs
-
-loop-less : tie.Need-loop-less Inv-loop μ-loop
-loop-less c = search needs
-
 loop-again : tie.Need-loop-again Inv-loop μ-loop
-loop-again c = (search needs, length-front (c .before .before .before .before .before .before .before .before .before .before .before .before .before .before .before .before .before .loop .input) (c .before .before .before .before .same-case .last .1 .0) (c .before .before .before .before .before .before .before .before .before .before .input-size .result) (c .before .before .before .before .same-case .kept .1 .0) ∙ c .before .before .before .before .before .before .before .before .before .before .before .before .before .before .before .before .before .loop .inv .1, length-front (c .before .before .before .before .before .before .before .before .before .before .before .before .before .before .before .before .before .loop .out) (c .before .before .before .before .same-case .last .1 .1 .0) (c .before .before .before .before .before .before .before .before .room-of .result) (c .before .before .before .before .same-case .kept .1 .1 .0) ∙ c .before .before .before .before .before .before .before .before .before .before .before .before .before .before .before .before .before .loop .inv .2, search needs, search needs)
-
-say-requires : tie.Need-say-requires Inv-loop μ-loop
-say-requires c κs = search needs
-
-returns : tie.Need-returns Inv-loop μ-loop
-returns c = search needs
+loop-again c =
+    let turned = c .before .next-case .ensures in
+    let called = c .before .before .before .before .before in
+    let read = called .before .before .before .before in
+    let turn = read .before .before .before .before .before .before in (
+      record { size = turned .fits .same ∙ turn .loop .inv .0 .size; sound = turned .sound; within = turned .fits .within },
+      length-front (turn .loop .input) (called .same-case .last .1 .0) (read .before .before .input-size .result) (called .same-case .kept .1 .0) ∙ turn .loop .inv .1,
+      length-front (turn .loop .out) (called .same-case .last .1 .1 .0) (read .room-of .result) (called .same-case .kept .1 .1 .0) ∙ turn .loop .inv .2,
+    )
 
 pub main-spec : {M : Type 1} → statement M
 main-spec =
@@ -92,27 +57,25 @@ main-spec =
     (tie.spec
     Inv-loop
     μ-loop
+    (λ c. search needs)
+    (λ c κs. search needs)
     loop-holds
-    slice-aggregate-next-case
-    next-case-requires
-    add-cases
-    array-share-prefix-buf
+    (λ c. search needs)
     slice-aggregate-input-size
-    input-size-requires
-    array-share-prefix-buf-2
+    (λ c κs. search needs)
+    (λ c. search needs)
     slice-aggregate-room-of
-    room-of-requires
-    array-share-prefix-buf-3
+    (λ c κs. search needs)
+    (λ c. search needs)
     slice-aggregate-same-case
-    array-borrow-prefix-input
+    (λ c. search needs)
     slice-aggregate-same-case-2
-    array-borrow-prefix-out
+    (λ c. search needs)
     slice-aggregate-same-case-3
-    same-case-requires
-    pick-requires
-    one-requires
-    add-differ
-    loop-less
+    (λ c κs. search needs)
+    (λ c. search needs)
+    (λ c κs. search needs)
+    (λ c. search needs)
     loop-again
-    say-requires
-    returns)
+    (λ c κs. search needs)
+    (λ c. search needs))

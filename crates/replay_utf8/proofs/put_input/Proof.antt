@@ -2,8 +2,7 @@
 use mathlib.Core.Path.{_≡_}
 use Prim.Native.Nat.{_≤_, _-_}
 use native.Mathlib.Omega.{arith}
-use lib.ListN.{length-set}
-use lib.ListN.{length}
+use lib.ListN.{length-set, length}
 use borrow.Author.Needs.{needs}
 use Rattle.replay_utf8.proofs.put_input.Statement.{statement}
 use Rattle.replay_utf8.proofs.put_input.Tie as tie
@@ -14,29 +13,8 @@ Inv-loop case input₀ i₀ input i = (i ≤ length input) × (length input ≡ 
 abbrev μ-loop : tie.MeasureT-loop
 μ-loop case input₀ i₀ input i = length input₀ - i
 
-loop-holds : tie.Need-loop-holds Inv-loop μ-loop
-loop-holds c = search needs
-
-input-byte-requires : tie.Need-input-byte-requires Inv-loop μ-loop
-input-byte-requires c κs = search needs
-
-slice-write-input : tie.Need-slice-write-input Inv-loop μ-loop
-slice-write-input c = search needs
-
-add-i : tie.Need-add-i Inv-loop μ-loop
-add-i c = search needs
-
-loop-less : tie.Need-loop-less Inv-loop μ-loop
-loop-less c = search needs
-
 loop-again : tie.Need-loop-again Inv-loop μ-loop
 loop-again c = (simp length-set (omega arith), simp length-set (omega arith))
-
-same-length : tie.Need-same-length Inv-loop μ-loop
-same-length c = search needs
-
-returns : tie.Need-returns Inv-loop μ-loop
-returns c = search needs
 
 pub put-input-spec : {M : Type 1} → statement M
 put-input-spec =
@@ -44,11 +22,11 @@ put-input-spec =
     (tie.spec
     Inv-loop
     μ-loop
-    loop-holds
-    input-byte-requires
-    slice-write-input
-    add-i
-    loop-less
+    (λ c. search needs)
+    (λ c κs. search needs)
+    (λ c. search needs)
+    (λ c. search needs)
+    (λ c. search needs)
     loop-again
-    same-length
-    returns)
+    (λ c. search needs)
+    (λ c. search needs))

@@ -3,7 +3,7 @@ use Prim.Native.Nat.{_-_}
 use native.Mathlib.Omega.{arith}
 use lib.ListN.{length}
 use borrow.Author.Needs.{needs}
-use Rattle.utf8.proofs.Filling.{Filling, filling-start, filling-one, filling-two, filling-three, filling-four, filling-run-room, filling-run, filling-end}
+use Rattle.utf8.proofs.Loops.Filling.{Filling, filling-start, filling-one, filling-two, filling-three, filling-four, filling-run-room, filling-run, filling-end}
 use Rattle.utf8.proofs.fill.Statement.{statement}
 use Rattle.utf8.proofs.fill.Tie as tie
 
@@ -15,12 +15,6 @@ abbrev μ-loop : tie.MeasureT-loop
 
 loop-holds : tie.Need-loop-holds Inv-loop μ-loop
 loop-holds c = filling-start _ _ (c .before .before .pre .0) (c .before .before .pre .1)
-
-shared-slice-read-a : tie.Need-shared-slice-read-a Inv-loop μ-loop
-shared-slice-read-a c = search needs
-
-wide-requires : tie.Need-wide-requires Inv-loop μ-loop
-wide-requires c κs = search needs
 
 mul-out : tie.Need-mul-out Inv-loop μ-loop
 mul-out c = let s = filling-one _ _ _ _ _ (c .before .before .before .before .loop .inv) (c .before .before .before .loop-test .taken) (c .before .if1 .taken) in omega arith
@@ -34,23 +28,8 @@ add-from c = omega arith
 add-to : tie.Need-add-to Inv-loop μ-loop
 add-to c = let s = filling-one _ _ _ _ _ (c .before .before .before .before .loop .inv) (c .before .before .before .loop-test .taken) (c .before .if1 .taken) in omega arith
 
-past-ascii-requires : tie.Need-past-ascii-requires Inv-loop μ-loop
-past-ascii-requires c κs = search needs
-
-sub-widen : tie.Need-sub-widen Inv-loop μ-loop
-sub-widen c = search needs
-
-part-widen-start : tie.Need-part-widen-start Inv-loop μ-loop
-part-widen-start c = search needs
-
-part-widen-end : tie.Need-part-widen-end Inv-loop μ-loop
-part-widen-end c = search needs
-
 widen-requires : tie.Need-widen-requires Inv-loop μ-loop
 widen-requires c κs = rw (c .before .before .before .wide .ensures .is) (filling-run-room _ _ _ _ _ (filling-one _ _ _ _ _ (c .before .before .before .before .before .before .before .loop .inv) (c .before .before .before .before .before .before .loop-test .taken) (c .before .before .before .before .if1 .taken) .next) _ (c .before .before .past-ascii .ensures))
-
-sub-to : tie.Need-sub-to Inv-loop μ-loop
-sub-to c = search needs
 
 add-to-2 : tie.Need-add-to-2 Inv-loop μ-loop
 add-to-2 c = let f = filling-one _ _ _ _ _ (c .before .before .before .before .before .before .before .before .before .before .loop .inv) (c .before .before .before .before .before .before .before .before .before .loop-test .taken) (c .before .before .before .before .before .before .before .if1 .taken) .next in let r = filling-run-room _ _ _ _ _ f _ (c .before .before .before .before .before .past-ascii .ensures) in omega arith
@@ -137,18 +116,18 @@ fill-spec =
     Inv-loop
     μ-loop
     loop-holds
-    shared-slice-read-a
-    wide-requires
+    (λ c. search needs)
+    (λ c κs. search needs)
     mul-out
     slice-write-out
     add-from
     add-to
-    past-ascii-requires
-    sub-widen
-    part-widen-start
-    part-widen-end
+    (λ c κs. search needs)
+    (λ c. search needs)
+    (λ c. search needs)
+    (λ c. search needs)
     widen-requires
-    sub-to
+    (λ c. search needs)
     add-to-2
     loop-less
     loop-again

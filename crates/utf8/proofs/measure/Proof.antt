@@ -5,7 +5,7 @@ use native.Mathlib.Omega.{arith}
 use lib.ListN.{length}
 use borrow.Author.Tests.{not-true, not-false}
 use borrow.Author.Needs.{needs}
-use Rattle.utf8.proofs.Counting.{Passed, passed-start, passed-ascii, passed-two, passed-three, passed-four, fault-two, fault-three, fault-four, passed-end}
+use Rattle.utf8.proofs.Loops.Counting.{Passed, passed-start, passed-ascii, passed-two, passed-three, passed-four, fault-two, fault-three, fault-four, passed-end}
 use Rattle.utf8.proofs.measure.Statement.{statement}
 use Rattle.utf8.proofs.measure.Tie as tie
 
@@ -18,77 +18,23 @@ abbrev μ-loop : tie.MeasureT-loop
 loop-holds : tie.Need-loop-holds Inv-loop μ-loop
 loop-holds c = passed-start _
 
-shared-slice-read-a : tie.Need-shared-slice-read-a Inv-loop μ-loop
-shared-slice-read-a c = search needs
-
-add-past-ascii : tie.Need-add-past-ascii Inv-loop μ-loop
-add-past-ascii c = search needs
-
-past-ascii-requires : tie.Need-past-ascii-requires Inv-loop μ-loop
-past-ascii-requires c κs = search needs
-
-sub-n : tie.Need-sub-n Inv-loop μ-loop
-sub-n c = search needs
-
-add-n : tie.Need-add-n Inv-loop μ-loop
-add-n c = search needs
-
-loop-less : tie.Need-loop-less Inv-loop μ-loop
-loop-less c = search needs
-
 loop-again : tie.Need-loop-again Inv-loop μ-loop
 loop-again c = passed-ascii _ _ _ (c .before .before .before .before .loop .inv) _ (c .before .before .before .loop-test .taken) (c .before .if1 .taken) (c .past-ascii .ensures)
-
-is-two-requires : tie.Need-is-two-requires Inv-loop μ-loop
-is-two-requires c κs = search needs
 
 returns : tie.Need-returns Inv-loop μ-loop
 returns c = fault-two _ _ _ (c .before .before .before .before .before .before .loop .inv) (c .before .before .before .before .before .loop-test .taken) (c .before .before .before .if1 .left) (c .before .before .if2 .taken) (sym (c .before .is-two .ensures) ∙ not-true _ (c .if3 .taken))
 
-add-i : tie.Need-add-i Inv-loop μ-loop
-add-i c = search needs
-
-add-n-2 : tie.Need-add-n-2 Inv-loop μ-loop
-add-n-2 c = search needs
-
-loop-less-2 : tie.Need-loop-less-2 Inv-loop μ-loop
-loop-less-2 c = search needs
-
 loop-again-2 : tie.Need-loop-again-2 Inv-loop μ-loop
 loop-again-2 c = passed-two _ _ _ (c .before .before .before .before .before .before .loop .inv) (c .before .before .before .before .before .loop-test .taken) (c .before .before .before .if1 .left) (c .before .before .if2 .taken) (sym (c .before .is-two .ensures) ∙ not-false _ (c .if3 .left))
-
-is-three-requires : tie.Need-is-three-requires Inv-loop μ-loop
-is-three-requires c κs = search needs
 
 returns-2 : tie.Need-returns-2 Inv-loop μ-loop
 returns-2 c = fault-three _ _ _ (c .before .before .before .before .before .before .before .loop .inv) (c .before .before .before .before .before .before .loop-test .taken) (c .before .before .before .if2 .left) (c .before .before .if4 .taken) (sym (c .before .is-three .ensures) ∙ not-true _ (c .if5 .taken))
 
-add-i-2 : tie.Need-add-i-2 Inv-loop μ-loop
-add-i-2 c = search needs
-
-add-n-3 : tie.Need-add-n-3 Inv-loop μ-loop
-add-n-3 c = search needs
-
-loop-less-3 : tie.Need-loop-less-3 Inv-loop μ-loop
-loop-less-3 c = search needs
-
 loop-again-3 : tie.Need-loop-again-3 Inv-loop μ-loop
 loop-again-3 c = passed-three _ _ _ (c .before .before .before .before .before .before .before .loop .inv) (c .before .before .before .before .before .before .loop-test .taken) (c .before .before .before .if2 .left) (c .before .before .if4 .taken) (sym (c .before .is-three .ensures) ∙ not-false _ (c .if5 .left))
 
-is-four-requires : tie.Need-is-four-requires Inv-loop μ-loop
-is-four-requires c κs = search needs
-
 returns-3 : tie.Need-returns-3 Inv-loop μ-loop
 returns-3 c = fault-four _ _ _ (c .before .before .before .before .before .before .before .loop .inv) (c .before .before .before .before .before .before .loop-test .taken) (c .before .before .if4 .left) (sym (c .before .is-four .ensures) ∙ not-true _ (c .if6 .taken))
-
-add-i-3 : tie.Need-add-i-3 Inv-loop μ-loop
-add-i-3 c = search needs
-
-add-n-4 : tie.Need-add-n-4 Inv-loop μ-loop
-add-n-4 c = search needs
-
-loop-less-4 : tie.Need-loop-less-4 Inv-loop μ-loop
-loop-less-4 c = search needs
 
 loop-again-4 : tie.Need-loop-again-4 Inv-loop μ-loop
 loop-again-4 c = passed-four _ _ _ (c .before .before .before .before .before .before .before .loop .inv) (c .before .before .before .before .before .before .loop-test .taken) (c .before .before .if4 .left) (sym (c .before .is-four .ensures) ∙ not-false _ (c .if6 .left))
@@ -103,29 +49,29 @@ measure-spec =
     Inv-loop
     μ-loop
     loop-holds
-    shared-slice-read-a
-    add-past-ascii
-    past-ascii-requires
-    sub-n
-    add-n
-    loop-less
+    (λ c. search needs)
+    (λ c. search needs)
+    (λ c κs. search needs)
+    (λ c. search needs)
+    (λ c. search needs)
+    (λ c. search needs)
     loop-again
-    is-two-requires
+    (λ c κs. search needs)
     returns
-    add-i
-    add-n-2
-    loop-less-2
+    (λ c. search needs)
+    (λ c. search needs)
+    (λ c. search needs)
     loop-again-2
-    is-three-requires
+    (λ c κs. search needs)
     returns-2
-    add-i-2
-    add-n-3
-    loop-less-3
+    (λ c. search needs)
+    (λ c. search needs)
+    (λ c. search needs)
     loop-again-3
-    is-four-requires
+    (λ c κs. search needs)
     returns-3
-    add-i-3
-    add-n-4
-    loop-less-4
+    (λ c. search needs)
+    (λ c. search needs)
+    (λ c. search needs)
     loop-again-4
     returns-4)

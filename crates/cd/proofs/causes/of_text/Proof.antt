@@ -1,29 +1,14 @@
 -- Each return is the next of 01's causes, or none is left. Assumes nothing.
 use mathlib.Core.Path.{ap, _∙_}
-use Rattle.bits.specs.Refusals.{UNCLASSED}
-use Rattle.cd.specs.Causes.{refusedAt}
-use Rattle.cd.specs.CausesLaws.{text-room, text-unclassed, text-free}
+use Rattle.base.specs.Refusals.{UNCLASSED}
+use Rattle.base.specs.Causes.{refusedAt}
+use Rattle.cd.proofs.Laws.Causes.{text-room, text-unclassed, text-free}
 use borrow.Author.Needs.{needs}
 use Rattle.cd.proofs.causes.of_text.Statement.{statement}
 use Rattle.cd.proofs.causes.of_text.Tie as tie
 
-mul-if1 : tie.Need-mul-if1
-mul-if1 c = search needs
-
-refuse-requires : tie.Need-refuse-requires
-refuse-requires c κs = search needs
-
 returns : tie.Need-returns
 returns c = c .refuse .ensures ∙ text-room _ _ _ _ _ (c .before .if1 .taken)
-
-first-unclassed-requires : tie.Need-first-unclassed-requires
-first-unclassed-requires c κs = search needs
-
-cast-refuse : tie.Need-cast-refuse
-cast-refuse c = search needs
-
-refuse-requires-2 : tie.Need-refuse-requires-2
-refuse-requires-2 c κs = search needs
 
 returns-2 : tie.Need-returns-2
 returns-2 c =
@@ -38,11 +23,11 @@ pub of-text-spec : {M : Type 1} → statement M
 of-text-spec =
     tie.close
     (tie.spec
-    mul-if1
-    refuse-requires
+    (λ c. search needs)
+    (λ c κs. search needs)
     returns
-    first-unclassed-requires
-    cast-refuse
-    refuse-requires-2
+    (λ c κs. search needs)
+    (λ c. search needs)
+    (λ c κs. search needs)
     returns-2
     returns-3)

@@ -2,20 +2,17 @@
 -- sufficient matches. Assumes nothing.
 use Prim.Native.Nat.{_-_}
 use native.Mathlib.Omega.{arith}
-use Rattle.standing.specs.Standing.{start}
-use Rattle.cd.specs.Reading.{Reading, read-start, read-more, read-bound, read-end}
+use Rattle.cd_best.specs.Inner.Standing.{start}
+use Rattle.cd.proofs.Loops.Reading.{Reading, read-start, read-room, read-more, read-bound, read-end}
 use borrow.Author.Needs.{needs}
 use Rattle.cd.proofs.reading.read_layers.Statement.{statement}
 use Rattle.cd.proofs.reading.read_layers.Tie as tie
 
 abbrev Inv-loop : tie.InvT-loop
-Inv-loop work₀ n count threshold small classes languages included s₀ k₀ work s k = Reading threshold small classes languages included n work₀ count work s k
+Inv-loop work₀ slots count threshold small classes languages included s₀ k₀ work s k = Reading threshold small classes languages included slots work₀ count work s k
 
 abbrev μ-loop : tie.MeasureT-loop
-μ-loop work₀ n count threshold small classes languages included s₀ k₀ work s k = count - k
-
-start-requires : tie.Need-start-requires Inv-loop μ-loop
-start-requires c κs = search needs
+μ-loop work₀ slots count threshold small classes languages included s₀ k₀ work s k = count - k
 
 loop-holds : tie.Need-loop-holds Inv-loop μ-loop
 loop-holds c = rw (c .start .ensures) (read-start _ _ _ _ _ _ _ _)
@@ -23,21 +20,19 @@ loop-holds c = rw (c .start .ensures) (read-start _ _ _ _ _ _ _ _)
 add-k : tie.Need-add-k Inv-loop μ-loop
 add-k c =
     let asked = c .before .before .before .before .before .before .before in
-    omega (arith, c .loop-test .taken, asked .pre .3)
+    omega (arith, c .loop-test .taken, asked .pre .2)
 
 cast-read-layer : tie.Need-cast-read-layer Inv-loop μ-loop
 cast-read-layer c =
-    let asked = c .before .before .before .before .before .before .before .before in
-    omega (arith, c .before .loop-test .taken, asked .pre .3)
+    let at-loop-test = c .before in
+    let asked = at-loop-test .before .before .before .before .before .before .before in
+    omega (arith, at-loop-test .loop-test .taken, asked .pre .2)
 
 read-layer-requires : tie.Need-read-layer-requires Inv-loop μ-loop
 read-layer-requires c κs =
     let at-loop = c .before .before in
     let asked = at-loop .before .before .before .before .before .before in
-    (asked .pre .0, asked .pre .1, omega (arith, asked .pre .2, at-loop .loop .inv .kept .size), read-bound _ _ _ _ _ _ _ _ (at-loop .loop .inv) (asked .pre .3))
-
-loop-less : tie.Need-loop-less Inv-loop μ-loop
-loop-less c = search needs
+    (asked .pre .0, read-room _ _ _ _ _ _ _ _ (at-loop .loop .inv) (asked .pre .1), read-bound _ _ _ _ _ _ _ _ (at-loop .loop .inv) (asked .pre .2))
 
 loop-again : tie.Need-loop-again Inv-loop μ-loop
 loop-again c =
@@ -48,10 +43,14 @@ loop-again c =
     read-more _ _ _ _ _ _ _ _ (at-loop .loop .inv) (asked .pre .0) (at-loop-test .loop-test .taken) _ _ (at-read-layer .read-layer .ensures .1) (at-read-layer .read-layer .ensures .0)
 
 same-length : tie.Need-same-length Inv-loop μ-loop
-same-length c = c .before .loop .inv .kept .size
+same-length c =
+    let at-loop = c .before in
+    at-loop .loop .inv .kept .size
 
 returns : tie.Need-returns Inv-loop μ-loop
-returns c = (read-end _ _ _ _ _ _ _ _ (c .before .loop .inv) (c .loop-test .left), c .before .loop .inv .kept)
+returns c =
+    let at-loop = c .before in
+    (read-end _ _ _ _ _ _ _ _ (at-loop .loop .inv) (c .loop-test .left), at-loop .loop .inv .kept)
 
 pub read-layers-spec : {M : Type 1} → statement M
 read-layers-spec =
@@ -59,12 +58,12 @@ read-layers-spec =
     (tie.spec
     Inv-loop
     μ-loop
-    start-requires
+    (λ c κs. search needs)
     loop-holds
     add-k
     cast-read-layer
     read-layer-requires
-    loop-less
+    (λ c. search needs)
     loop-again
     same-length
     returns)

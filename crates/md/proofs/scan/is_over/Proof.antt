@@ -4,15 +4,6 @@ use borrow.Author.Needs.{needs}
 use Rattle.md.proofs.scan.is_over.Statement.{statement}
 use Rattle.md.proofs.scan.is_over.Tie as tie
 
-at-checkpoint-requires : tie.Need-at-checkpoint-requires
-at-checkpoint-requires c κs = search needs
-
-sum-of-requires : tie.Need-sum-of-requires
-sum-of-requires c κs = search needs
-
-reaches-requires : tie.Need-reaches-requires
-reaches-requires c κs = search needs
-
 returns : tie.Need-returns
 returns c = simp (sym (c .before .before .before .at-checkpoint .ensures) ∙ c .before .before .if1 .taken, c .reaches .ensures, c .before .sum-of .ensures)
 
@@ -21,4 +12,4 @@ returns-2 c = simp (sym (c .before .at-checkpoint .ensures) ∙ c .if1 .left)
 
 pub is-over-spec : {M : Type 1} → statement M
 is-over-spec =
-    tie.close (tie.spec at-checkpoint-requires sum-of-requires reaches-requires returns returns-2)
+    tie.close (tie.spec (λ c κs. search needs) (λ c κs. search needs) (λ c κs. search needs) returns returns-2)

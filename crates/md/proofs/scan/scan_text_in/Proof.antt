@@ -3,8 +3,8 @@
 use Prim.Native.Nat.{_-_}
 use mathlib.Core.Path.{sym, _∙_}
 use native.Mathlib.Omega.{arith}
-use Rattle.md.specs.Going.{Going, going-start, going-room, going-countable, going-range, going-missing, fed-countable, going-on, going-stopped, going-ended}
-use Rattle.md.specs.ScanLaws.{class-range}
+use Rattle.md.proofs.Loops.Going.{Going, going-start, going-room, going-countable, going-range, going-missing, fed-countable, going-on, going-stopped, going-ended}
+use Rattle.md.proofs.Laws.Scan.{class-range}
 use Rattle.md.proofs.scan.scan_text_in.Statement.{statement}
 use Rattle.md.proofs.scan.scan_text_in.Tie as tie
 
@@ -26,7 +26,7 @@ loop-holds c = going-start _ _ _ _ _ (c .start .ensures)
 class-at-requires : tie.Need-class-at-requires Inv-loop μ-loop
 class-at-requires c κs =
     let entry = c .before .before .before .before .before .before in
-    (entry .pre .0 .good, entry .pre .1)
+    (entry .pre .tables .good, entry .pre .builtin)
 
 enum-known-c : tie.Need-enum-known-c Inv-loop μ-loop
 enum-known-c c = c .match .keys1
@@ -53,9 +53,9 @@ fed-requires c κs =
     let entry = turn .before .before .before .before .before .before in
     let going = turn .before .loop .inv in (
       going-room _ _ _ _ going (omega arith),
-      entry .pre .0 .fits,
-      going-range _ _ _ _ going (entry .pre .0 .good),
-      class-range _ _ (entry .pre .0 .good) _ _ (sym (c .before .before .before .class-at .ensures) ∙ c .before .c .given .1),
+      entry .pre .tables .fits,
+      going-range _ _ _ _ going (entry .pre .tables .good),
+      class-range _ _ (entry .pre .tables .good) _ _ (sym (c .before .before .before .class-at .ensures) ∙ c .before .c .given .1),
     )
 
 is-over-requires : tie.Need-is-over-requires Inv-loop μ-loop
@@ -66,21 +66,21 @@ is-over-requires c κs =
     fed-countable _ _ _ _ (turn .before .loop .inv) _ _ (turn .loop-test .taken)
     (sym (fed .before .before .before .before .class-at .ensures) ∙ fed .before .before .c .given .1)
     (fed .fed .ensures)
-    (omega (arith, entry .pre .0 .short))
+    (omega (arith, entry .pre .short))
 
 stopped-after-requires : tie.Need-stopped-after-requires Inv-loop μ-loop
 stopped-after-requires c κs =
     let fed = c .before .before in
     let turn = fed .before .before .before .before .before in
     let entry = turn .before .before .before .before .before .before in (
-      entry .pre .0 .good,
-      entry .pre .0 .short,
+      entry .pre .tables .good,
+      entry .pre .short,
       turn .loop-test .taken,
       fed-countable _ _ _ _ (turn .before .loop .inv) _ _ (turn .loop-test .taken)
           (sym (fed .before .before .before .before .class-at .ensures) ∙ fed .before .before .c .given .1)
           (fed .fed .ensures)
-          (omega (arith, entry .pre .0 .short)),
-      entry .pre .1,
+          (omega (arith, entry .pre .short)),
+      entry .pre .builtin,
     )
 
 returns-2 : tie.Need-returns-2 Inv-loop μ-loop
@@ -100,7 +100,7 @@ add-i c =
     let fed = c .before .before in
     let turn = fed .before .before .before .before .before in
     let entry = turn .before .before .before .before .before .before in
-    omega (arith, turn .loop-test .taken, entry .pre .0 .short)
+    omega (arith, turn .loop-test .taken, entry .pre .short)
 
 loop-less : tie.Need-loop-less Inv-loop μ-loop
 loop-less c = omega arith

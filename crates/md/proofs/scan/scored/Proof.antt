@@ -4,15 +4,9 @@ use borrow.Author.Needs.{needs}
 use Rattle.md.proofs.scan.scored.Statement.{statement}
 use Rattle.md.proofs.scan.scored.Tie as tie
 
-ratios-requires : tie.Need-ratios-requires
-ratios-requires c κs = (c .pre .shared, c .pre .proper)
-
-sum-requires : tie.Need-sum-requires
-sum-requires c κs = search needs
-
 returns : tie.Need-returns
 unfolding scored sumOf
 returns c = cc
 
 pub scored-spec : {M : Type 1} → statement M
-scored-spec = tie.close (tie.spec ratios-requires sum-requires returns)
+scored-spec = tie.close (tie.spec (λ c κs. search needs) (λ c κs. search needs) returns)

@@ -2,9 +2,10 @@
 use Prim.Native.Nat.{_≤_, _-_}
 use mathlib.Core.Path.{_≡_, refl, sym, _∙_}
 use native.Mathlib.Omega.{arith}
-use Rattle.bits.specs.First.{firstFrom, first-hit, first-miss, first-end}
+use Rattle.base.specs.Inner.First.{firstFrom}
+use Rattle.base.proofs.Laws.First.{first-hit, first-miss, first-end}
 use Rattle.md.specs.Scan.{unclassed}
-use Rattle.md.specs.ScanLaws.{is-unclassed, is-classed}
+use Rattle.md.proofs.Laws.Scan.{is-unclassed, is-classed}
 use Rattle.md.proofs.scan.unclassed_from.Statement.{statement}
 use Rattle.md.proofs.scan.unclassed_from.Tie as tie
 

@@ -5,22 +5,13 @@ use borrow.Author.Needs.{needs}
 use Rattle.md.proofs.text.at_checkpoint.Statement.{statement}
 use Rattle.md.proofs.text.at_checkpoint.Tie as tie
 
-sub-result : tie.Need-sub-result
-sub-result c = search needs
-
 returns : tie.Need-returns
 unfolding checkpoint period
 returns c = simp (le-leb _ _ (c .if1 .taken))
 
-sub-result-2 : tie.Need-sub-result-2
-sub-result-2 c = search needs
-
 returns-2 : tie.Need-returns-2
 unfolding checkpoint period
 returns-2 c = simp (lt-leb _ _ (c .before .if1 .left), le-leb _ _ (c .if2 .taken))
-
-sub-result-3 : tie.Need-sub-result-3
-sub-result-3 c = search needs
 
 returns-3 : tie.Need-returns-3
 unfolding checkpoint period
@@ -28,4 +19,4 @@ returns-3 c = simp (lt-leb _ _ (c .before .if1 .left), lt-leb _ _ (c .if2 .left)
 
 pub at-checkpoint-spec : {M : Type 1} → statement M
 at-checkpoint-spec =
-    tie.close (tie.spec sub-result returns sub-result-2 returns-2 sub-result-3 returns-3)
+    tie.close (tie.spec (λ c. search needs) returns (λ c. search needs) returns-2 (λ c. search needs) returns-3)

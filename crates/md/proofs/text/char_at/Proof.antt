@@ -2,17 +2,11 @@
 use denote.Ref.{now}
 use mathlib.Core.Path.{sym}
 use lib.ListN.{List·getD-eq-default}
-use Rattle.bits.specs.Limits.{NEWLINE}
-use Rattle.md.specs.ScanLaws.{getD-any}
+use Rattle.base.specs.Limits.{NEWLINE}
+use Rattle.md.proofs.Laws.Scan.{getD-any}
 use borrow.Author.Needs.{needs}
 use Rattle.md.proofs.text.char_at.Statement.{statement}
 use Rattle.md.proofs.text.char_at.Tie as tie
-
-mul-result : tie.Need-mul-result
-mul-result c = search needs
-
-shared-slice-read-result : tie.Need-shared-slice-read-result
-shared-slice-read-result c = search needs
 
 returns : tie.Need-returns
 returns c = getD-any (now (c .before .before .args .text)) (c .before .before .args .i) 0 NEWLINE (c .before .if1 .taken)
@@ -21,4 +15,4 @@ returns-2 : tie.Need-returns-2
 returns-2 c = sym (List·getD-eq-default (now (c .before .args .text)) NEWLINE (c .if1 .left))
 
 pub char-at-spec : {M : Type 1} → statement M
-char-at-spec = tie.close (tie.spec mul-result shared-slice-read-result returns returns-2)
+char-at-spec = tie.close (tie.spec (λ c. search needs) (λ c. search needs) returns returns-2)

@@ -1,6 +1,6 @@
 -- Between the infinities lie the finite numbers and nothing else. Assumes nothing.
 use lib.Ieee.{nanBits, ofBits, ofFields, neg}
-use Rattle.ratio.specs.FiniteLaws.{between}
+use Rattle.ratio.proofs.Laws.Finite.{between}
 use Rattle.ratio.proofs.finite.is_finite.Statement.{statement}
 use Rattle.ratio.proofs.finite.is_finite.Tie as tie
 

@@ -3,7 +3,7 @@ use Prim.Native.Nat.{_^_}
 use native.Mathlib.Omega.{arith}
 use lib.Dec.{le→leb}
 use lib.Ieee.{inFloat}
-use Rattle.ratio.specs.RoundedLaws.{rounded-is}
+use Rattle.ratio.proofs.Laws.Rounded.{rounded-is}
 use Rattle.ratio.proofs.rounding.rounded.Statement.{statement}
 use Rattle.ratio.proofs.rounding.rounded.Tie as tie
 

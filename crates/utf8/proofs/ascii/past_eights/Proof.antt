@@ -5,7 +5,8 @@ use native.Mathlib.Omega.{arith}
 use lib.ListN.{length}
 use borrow.Author.Tests.{not-false}
 use borrow.Author.Needs.{needs}
-use Rattle.utf8.specs.Ascii.{AsciiRun, run-none, run-eight}
+use Rattle.utf8.specs.Inner.Ascii.{AsciiRun}
+use Rattle.utf8.proofs.Laws.Ascii.{run-none, run-eight}
 use Rattle.utf8.proofs.ascii.past_eights.Statement.{statement}
 use Rattle.utf8.proofs.ascii.past_eights.Tie as tie
 
@@ -18,20 +19,8 @@ abbrev μ-loop : tie.MeasureT-loop
 loop-holds : tie.Need-loop-holds Inv-loop μ-loop
 loop-holds c = run-none _ _ (c .before .pre)
 
-sub-loop : tie.Need-sub-loop Inv-loop μ-loop
-sub-loop c = search needs
-
-eight-ascii-requires : tie.Need-eight-ascii-requires Inv-loop μ-loop
-eight-ascii-requires c κs = search needs
-
 returns : tie.Need-returns Inv-loop μ-loop
 returns c = c .before .before .before .loop .inv
-
-add-j : tie.Need-add-j Inv-loop μ-loop
-add-j c = search needs
-
-loop-less : tie.Need-loop-less Inv-loop μ-loop
-loop-less c = search needs
 
 loop-again : tie.Need-loop-again Inv-loop μ-loop
 loop-again c = run-eight _ _ _ (c .before .before .before .loop .inv) (omega arith) (sym (c .before .eight-ascii .ensures) ∙ not-false _ (c .if1 .left))
@@ -46,10 +35,10 @@ past-eights-spec =
     Inv-loop
     μ-loop
     loop-holds
-    sub-loop
-    eight-ascii-requires
+    (λ c. search needs)
+    (λ c κs. search needs)
     returns
-    add-j
-    loop-less
+    (λ c. search needs)
+    (λ c. search needs)
     loop-again
     returns-2)

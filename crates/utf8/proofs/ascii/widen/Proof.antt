@@ -2,48 +2,30 @@
 use Prim.Native.Nat.{_-_}
 use lib.ListN.{length}
 use borrow.Author.Needs.{needs}
-use Rattle.utf8.proofs.Widening.{Widened, widened-start, widened-more, widened-end}
+use Rattle.base.proofs.Loops.Putting.{Putting, putting-start, putting-length, putting-room, putting-more, putting-end}
 use Rattle.utf8.proofs.ascii.widen.Statement.{statement}
 use Rattle.utf8.proofs.ascii.widen.Tie as tie
 
 abbrev Inv-loop : tie.InvT-loop
-Inv-loop ascii out₀ at k₀ out k = Widened ascii out₀ out at k
+Inv-loop ascii out₀ at k₀ out k = Putting out₀ at ascii out k
 
 abbrev μ-loop : tie.MeasureT-loop
 μ-loop ascii out₀ at k₀ out k = length ascii - k
 
 loop-holds : tie.Need-loop-holds Inv-loop μ-loop
-loop-holds c = widened-start _ _ _
-
-shared-slice-read-wide : tie.Need-shared-slice-read-wide Inv-loop μ-loop
-shared-slice-read-wide c = search needs
-
-wide-requires : tie.Need-wide-requires Inv-loop μ-loop
-wide-requires c κs = search needs
-
-add-out : tie.Need-add-out Inv-loop μ-loop
-add-out c = search needs
-
-mul-out : tie.Need-mul-out Inv-loop μ-loop
-mul-out c = search needs
+loop-holds c = putting-start _ _ _ (c .before .before .pre)
 
 slice-write-out : tie.Need-slice-write-out Inv-loop μ-loop
-slice-write-out c = search needs
-
-add-k : tie.Need-add-k Inv-loop μ-loop
-add-k c = search needs
-
-loop-less : tie.Need-loop-less Inv-loop μ-loop
-loop-less c = search needs
+slice-write-out c = putting-room _ _ _ (c .before .before .before .loop .inv) (c .before .before .loop-test .taken)
 
 loop-again : tie.Need-loop-again Inv-loop μ-loop
-loop-again c = widened-more _ _ _ _ _ (c .before .before .before .loop .inv) _ (c .before .before .before .before .before .before .pre) (c .before .before .loop-test .taken) (c .wide .ensures .is)
+loop-again c = putting-more _ _ _ (c .before .before .before .loop .inv) (c .before .before .loop-test .taken) 0 _ (c .wide .ensures .is)
 
 same-length : tie.Need-same-length Inv-loop μ-loop
-same-length c = c .before .loop .inv .same
+same-length c = putting-length _ _ _ (c .before .loop .inv)
 
 returns : tie.Need-returns Inv-loop μ-loop
-returns c = widened-end _ _ _ _ _ (c .before .loop .inv) (c .loop-test .left)
+returns c = putting-end _ _ _ (c .before .loop .inv) (c .loop-test .left)
 
 pub widen-spec : {M : Type 1} → statement M
 widen-spec =
@@ -52,13 +34,13 @@ widen-spec =
     Inv-loop
     μ-loop
     loop-holds
-    shared-slice-read-wide
-    wide-requires
-    add-out
-    mul-out
+    (λ c. search needs)
+    (λ c κs. search needs)
+    (λ c. search needs)
+    (λ c. search needs)
     slice-write-out
-    add-k
-    loop-less
+    (λ c. search needs)
+    (λ c. search needs)
     loop-again
     same-length
     returns)

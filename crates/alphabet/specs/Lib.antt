@@ -1,5 +1,0 @@
-pub mod Alphabet
-pub mod AlphabetLaws
-pub mod Sieve
-pub mod Candidates
-pub mod CandidatesLaws

@@ -1,0 +1,10 @@
+pub mod All
+pub mod Causes
+pub mod Counted
+pub mod Every
+pub mod First
+pub mod In
+pub mod Numbers
+pub mod Put
+pub mod Tests
+pub mod Words

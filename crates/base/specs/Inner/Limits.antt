@@ -1,0 +1,20 @@
+-- Words of inner contracts, beside Limits: `LONGEST-LAYER`, `MOST-LETTERS`, `RECORDS`, `LARGEST`. No public promise rests on them.
+-- Assumes nothing.
+use Prim.Native.Nat.{ℕ}
+
+-- letters of a layer: one for each code point
+abbrev pub LONGEST-LAYER : ℕ
+LONGEST-LAYER = 8192
+
+-- distinct letters of a layer
+abbrev pub MOST-LETTERS : ℕ
+MOST-LETTERS = 8192
+
+-- above every record's place, whether counted from 0 or from 1: a key that ranks records keeps the record below this
+abbrev pub RECORDS : ℕ
+RECORDS = 64
+
+-- the most characters for which the laws of the detectors' counts are stated: 4 * LONGEST-TEXT. A running state that is lent has counts of
+-- at most twice the number received, which is LONGEST-TEXT at most; and the end of a word adds two of them
+abbrev pub LARGEST : ℕ
+LARGEST = 262144

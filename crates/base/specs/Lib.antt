@@ -1,0 +1,14 @@
+pub mod Flags
+pub mod FlagRule
+pub mod Limits
+pub mod Refusals
+pub mod Numbers
+pub mod Tests
+pub mod First
+pub mod Every
+pub mod Put
+pub mod Causes
+pub mod Counted
+pub mod Among
+pub mod LittleEndian
+pub mod Inner

@@ -1,0 +1,5 @@
+pub mod Causes
+pub mod Coherence
+pub mod Fits
+pub mod ForReaders
+pub mod Kept

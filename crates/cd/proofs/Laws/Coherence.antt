@@ -1,0 +1,195 @@
+-- The work area on its way through a call that is not refused: filled (`filled`), split (v), read (u) and cleared; what each step needs, and that
+-- the end is 01's ranking (`ranked-is`) and a cleared area (`cleared-is`). And what each way through the call shows.
+-- Assumes nothing.
+use Prim.Native.Nat.{ℕ, suc, _+_, _*_, _≤_}
+use mathlib.Core.Path.{_≡_, refl, sym, ap, _∙_}
+use mathlib.Core.Bool.{true}
+use mathlib.Core.List.{List, [], _∷_}
+use native.Mathlib.Omega.{arith}
+use lib.Ieee.{Float, ofBits}
+use lib.ListN.{length, take, drop, replicate, length-replicate}
+use Rattle.base.specs.declared.Cause.{Cause}
+use Rattle.base.specs.declared.Cause.the-variants.{Allowed, Refused}
+use Rattle.base.specs.declared.Refusal.{Refusal}
+use Rattle.base.specs.Limits.{LAST-RANGE, PAIR-BYTES, WORK-PER-POINT}
+use Rattle.base.specs.Inner.Limits.{LONGEST-LAYER}
+use Rattle.base.specs.Put.{put}
+use Rattle.ratio.specs.Finite.{isFinite}
+use Rattle.cd_languages.proofs.Laws.Languages.{good-most}
+use Rattle.cd_work.specs.Inner.Layout.{words, lettersStart, lacksStart}
+use Rattle.cd_work.specs.Inner.Parts.{Room, Kept, numbersIn, lettersIn}
+use Rattle.cd_work.proofs.Laws.Layer.{put-forgets}
+use Rattle.cd_layers.specs.Layers.{Taken, Layer, alphaUnicodeSplit}
+use Rattle.cd_layers.specs.Inner.Numbers.{numbers, keysOf, Below}
+use Rattle.cd_layers.proofs.Laws.Numbers.{alone, layers-few}
+use Rattle.cd_layers.proofs.Laws.Layers.{layer-alone, layer-count}
+use Rattle.cd_layers.proofs.Laws.Joining.{lettersAt}
+use Rattle.cd_layers.specs.Inner.Split.{Split}
+use Rattle.cd_layers.proofs.Laws.Split.{split-size, split-numbers, split-back}
+use Rattle.cd_letters.specs.Inner.LayerLetters.{layerLetters}
+use Rattle.cd_letters.proofs.Laws.LayerLetters.{letters-to-few}
+use Rattle.cd_taken.specs.Taken.{takenChars}
+use Rattle.cd_taken.specs.Inner.Area.{slotsOf, rangesOf, lowersOf, filled}
+use Rattle.cd_taken.proofs.Laws.Area.{taken-is, ranges-below, ranges-length, lowers-length, slots-room, filled-ranges, filled-lowers, filled-back, filled-size}
+use Rattle.cd_best.specs.declared.Standing.{Standing}
+use Rattle.cd_best.specs.Kept.{Hit}
+use Rattle.cd_best.specs.Inner.Standing.{bestAt, start}
+use Rattle.cd_best.specs.Inner.Known.{Known}
+use Rattle.cd_best.proofs.Laws.Tallies.{Tallies, start-tallies}
+use Rattle.cd_ranking.specs.declared.Ranking.{Ranking}
+use Rattle.cd_ranking.specs.Ranking.{inRank, byValue, refusedRanking}
+use Rattle.cd_ranking.specs.Inner.Listed.{keptRecords}
+use Rattle.cd_ranking.proofs.Laws.Tallied.{tallied-ranking}
+use Rattle.cd.specs.Causes.{causes, causesDefault}
+use Rattle.cd.specs.Inner.Causes.{Free}
+use Rattle.cd.proofs.Laws.Causes.{default-causes}
+use Rattle.cd.specs.Coherence.{DEFAULT-THRESHOLD, matchesOf, answered, coherenceRatio, coherenceRatioDefault, cleared, workAfter}
+use Rattle.cd.specs.KeptMatches.{keptOf}
+use Rattle.cd.proofs.Laws.Kept.{layers-tallies}
+use Rattle.cd.specs.Inner.After.{layersAfter}
+use Rattle.cd.specs.Inner.Reading.{readFrom}
+use Rattle.cd.proofs.Loops.Reading.{read-layers}
+
+alone-length : (xs : List ℕ) → length (alone xs) ≡ length xs
+alone-length [] = refl
+alone-length (x ∷ xs) = ap suc (alone-length xs)
+
+module _ (text classes pairs t included w : List ℕ) (free : Free text classes pairs t included (length w)) where
+  abbrev slots : ℕ
+  slots = slotsOf text
+
+  -- the work that 01 asks for is room for the slots
+  pub work-room : Room slots w
+  work-room = slots-room text w (free .short) (free .enough)
+
+  pub fill-room : lacksStart slots ≤ length w
+  fill-room = omega (arith, work-room .wide)
+
+  size : length (filled classes text w) ≡ length w
+  size = filled-size classes text w fill-room
+
+  -- the slots' ranges are ones that the pair table knows
+  pub split-needs : (slots ≤ length (filled classes text w)) × (length pairs ≡ PAIR-BYTES) × Below (numbersIn slots slots (filled classes text w))
+  split-needs =
+      (omega (arith, size, work-room .wide), free .tables .fits, rw (filled-ranges classes text w fill-room) (ranges-below classes text (free .tables .good)))
+
+  abbrev layersOf : List Layer
+  layersOf = alphaUnicodeSplit pairs (takenChars classes text)
+
+  module _ {v : List ℕ} {c : ℕ} (s : Split pairs slots (filled classes text w) v c) where
+    room : slots ≤ length (filled classes text w)
+    room = split-needs .0
+
+    same-lengths : length (rangesOf classes text) ≡ length (lowersOf classes text)
+    same-lengths = ranges-length classes text ∙ sym (lowers-length classes text)
+
+    pub split-room : length v ≡ length w
+    split-room = split-size pairs slots (filled classes text w) s room ∙ size
+
+    pub room-after : Room slots v
+    room-after = record { few = work-room .few; wide = omega (arith, work-room .wide, split-room) }
+
+    pub few-layers : c ≤ LAST-RANGE
+    few-layers =
+        let e : c ≡ length (keysOf pairs (rangesOf classes text)) = rw (filled-ranges classes text w fill-room) at (s .count) in
+        rw e (layers-few pairs (rangesOf classes text) (ranges-below classes text (free .tables .good)))
+
+    -- as many layers as 01 has
+    count-is : c ≡ length layersOf
+    count-is =
+        let e : c ≡ length (keysOf pairs (rangesOf classes text)) = rw (filled-ranges classes text w fill-room) at (s .count) in
+        e
+        ∙ sym (ap (λ (cs : List Taken). length (alphaUnicodeSplit pairs cs)) (taken-is classes text)
+        ∙ layer-count pairs (rangesOf classes text) (alone (lowersOf classes text)) alone-same)
+      where
+        alone-same : length (rangesOf classes text) ≡ length (alone (lowersOf classes text))
+        alone-same = same-lengths ∙ sym (alone-length (lowersOf classes text))
+
+    -- and each with the letters of its number
+    letters-are : (k : ℕ) → lettersAt k layersOf ≡ layerLetters slots (k + 1) v
+    letters-are k =
+        let a : numbersIn slots slots v ≡ numbers pairs (rangesOf classes text) =
+        split-numbers pairs slots (filled classes text w) s room ∙ ap (numbers pairs) (filled-ranges classes text w fill-room) in
+        let b : lettersIn slots slots v ≡ lowersOf classes text =
+        ap (take slots) (split-back pairs slots (filled classes text w) s room (lettersStart slots) (omega arith)) ∙ filled-lowers classes text w fill-room in
+        rw (a, b)
+        (ap (λ (cs : List Taken). lettersAt k (alphaUnicodeSplit pairs cs)) (taken-is classes text)
+        ∙ layer-alone pairs (rangesOf classes text) (lowersOf classes text) same-lengths k)
+
+    pub letters-short : (k : ℕ) → length (lettersAt k layersOf) ≤ LONGEST-LAYER
+    letters-short k =
+        omega (
+          arith,
+          ap length (letters-are k),
+          letters-to-few slots (k + 1) slots v (omega (arith, room-after .wide)),
+          work-room .few,
+        )
+
+    module _ (threshold : Float) (small : ℕ) where
+      abbrev standing : Standing
+      standing = readFrom threshold small classes t included slots v 0 c start
+
+      standing-is : standing ≡ layersAfter threshold small classes t included start layersOf
+      standing-is = rw count-is (read-layers threshold small classes t included slots v layersOf start letters-are)
+
+      abbrev hits : List Hit
+      hits = keptOf text threshold small classes pairs t included
+
+      -- what is read tallies with the kept matches
+      pub standing-tallies : Tallies (Known t) hits standing
+      standing-tallies =
+          rw standing-is (layers-tallies threshold small classes t included (free .comparable) start [] (start-tallies (Known t)) layersOf letters-short)
+
+      pub ranked-is : (x : Ranking) → x ≡ byValue (inRank t (bestAt standing) (keptRecords standing))
+          → x ≡ byValue (matchesOf text threshold small classes pairs t included)
+      unfolding matchesOf
+      ranked-is x e = e ∙ ap byValue (tallied-ranking t (good-most t (free .comparable .languages)) standing-tallies)
+
+    -- what lies past the area stays
+    pub cleared-is : {u x : List ℕ} → Kept slots v u → x ≡ put u 0 (replicate (WORK-PER-POINT * length text) 0) → x ≡ cleared text w
+    unfolding cleared
+    cleared-is {u} {x} k e =
+        let zeros : length (replicate {A = ℕ} (WORK-PER-POINT * length text) 0) ≡ WORK-PER-POINT * length text =
+        length-replicate {A = ℕ} (WORK-PER-POINT * length text) 0 in
+        let back : drop (words slots) u ≡ drop (words slots) w =
+        k .back ∙ split-back pairs slots (filled classes text w) s room (words slots) (omega arith)
+        ∙ filled-back classes text w fill-room (words slots) (omega arith) in
+        e ∙ put-forgets u w (replicate (WORK-PER-POINT * length text) 0) (words slots) (omega (arith, zeros)) back
+
+module _ (text : List ℕ) (threshold : Float) (small : ℕ) (classes pairs t included : List ℕ) (work room : ℕ) where
+  pub refused-answer : (r : Refusal) → causes text threshold classes pairs t included work room ≡ Refused r
+      → refusedRanking (r .number) (r .place) ≡ coherenceRatio text threshold small classes pairs t included work room
+  unfolding coherenceRatio answered
+  refused-answer r e = rw e
+
+  pub allowed-answer : causes text threshold classes pairs t included work room ≡ Allowed
+      → byValue (matchesOf text threshold small classes pairs t included) ≡ coherenceRatio text threshold small classes pairs t included work room
+  unfolding coherenceRatio answered
+  allowed-answer e = rw e
+
+module _ {c : Cause} (text w : List ℕ) where
+  pub refused-work : {r : Refusal} → c ≡ Refused r → w ≡ workAfter c text w
+  unfolding workAfter
+  refused-work e = rw e
+
+  pub allowed-work : c ≡ Allowed → cleared text w ≡ workAfter c text w
+  unfolding workAfter
+  allowed-work e = rw e
+
+-- 0.1 is finite, so that the cause between the two is never given
+pub default-finite : isFinite DEFAULT-THRESHOLD ≡ true
+unfolding ofBits
+default-finite = refl
+
+pub default-same : (text : List ℕ) (small : ℕ) (classes pairs t included : List ℕ) (work room : ℕ)
+    → coherenceRatio text DEFAULT-THRESHOLD small classes pairs t included work room ≡ coherenceRatioDefault text small classes pairs t included work room
+unfolding coherenceRatio coherenceRatioDefault
+default-same text small classes pairs t included work room =
+    ap (λ (c : Cause). answered c (matchesOf text DEFAULT-THRESHOLD small classes pairs t included))
+    (default-causes text classes pairs t included work room DEFAULT-THRESHOLD default-finite)
+
+pub default-work : (text classes pairs t included w : List ℕ) (work room : ℕ)
+    → workAfter (causes text DEFAULT-THRESHOLD classes pairs t included work room) text w
+    ≡ workAfter (causesDefault text classes pairs t included work room) text w
+default-work text classes pairs t included w work room =
+    ap (λ (c : Cause). workAfter c text w) (default-causes text classes pairs t included work room DEFAULT-THRESHOLD default-finite)

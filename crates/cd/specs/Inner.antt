@@ -1,0 +1,4 @@
+pub mod After
+pub mod Causes
+pub mod Comparable
+pub mod Reading

@@ -1,0 +1,63 @@
+-- What is counted before i, and what is left from i on, is all (`Counting`).
+-- Assumes nothing.
+use Prim.Native.Nat.{_-_}
+use native.Mathlib.Omega.{arith}
+use Rattle.cd_alphabet.proofs.Loops.Alphabet.{Counting, counting-start, counting-more, counting-end}
+use borrow.Author.Needs.{needs}
+use Rattle.cd_alphabet.proofs.share.Statement.{statement}
+use Rattle.cd_alphabet.proofs.share.Tie as tie
+
+abbrev Inv-loop : tie.InvT-loop
+Inv-loop layer sieve alphabet n num₀ den₀ i₀ num den i = Counting layer alphabet num den i
+
+abbrev μ-loop : tie.MeasureT-loop
+μ-loop layer sieve alphabet n num₀ den₀ i₀ num den i = n - i
+
+loop-holds : tie.Need-loop-holds Inv-loop μ-loop
+loop-holds c = counting-start _ _
+
+add-holds : tie.Need-add-holds Inv-loop μ-loop
+add-holds c = omega (arith, c .before .loop-test .taken)
+
+part-holds-start : tie.Need-part-holds-start Inv-loop μ-loop
+part-holds-start c = omega arith
+
+in-layer-requires : tie.Need-in-layer-requires Inv-loop μ-loop
+in-layer-requires c κs = c .before .before .before .before .before .before .before .before .pre .0
+
+add-num : tie.Need-add-num Inv-loop μ-loop
+add-num c = omega (arith, c .before .before .before .before .before .before .loop .inv .less, c .one .ensures .small, c .before .before .before .before .before .loop-test .taken, c .before .before .before .before .before .before .before .before .before .before .pre .1)
+
+add-den : tie.Need-add-den Inv-loop μ-loop
+add-den c = omega (arith, c .before .before .before .before .before .before .before .loop .inv .few, c .one2 .ensures .small, c .before .before .before .before .before .before .loop-test .taken, c .before .before .before .before .before .before .before .before .before .before .before .pre .1)
+
+loop-again : tie.Need-loop-again Inv-loop μ-loop
+loop-again c = counting-more _ _ (c .before .before .before .before .before .before .before .loop .inv) (c .before .before .before .before .before .before .loop-test .taken) _ _ (rw (c .before .before .before .holds .ensures, c .before .before .in-layer .ensures) at (c .before .one .ensures)) (rw (c .before .before .before .holds .ensures) at (c .one2 .ensures))
+
+returns : tie.Need-returns Inv-loop μ-loop
+returns c = counting-end _ _ (c .before .loop .inv) (c .loop-test .left)
+
+pub share-spec : {M : Type 1} → statement M
+share-spec =
+    tie.close
+    (tie.spec
+    Inv-loop
+    μ-loop
+    loop-holds
+    (λ c. search needs)
+    (λ c. search needs)
+    add-holds
+    (λ c. search needs)
+    (λ c. search needs)
+    part-holds-start
+    (λ c. search needs)
+    (λ c κs. search needs)
+    in-layer-requires
+    (λ c κs. search needs)
+    add-num
+    (λ c κs. search needs)
+    add-den
+    (λ c. search needs)
+    (λ c. search needs)
+    loop-again
+    returns)

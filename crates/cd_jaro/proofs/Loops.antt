@@ -1,0 +1,3 @@
+pub mod Matched
+pub mod OutOfOrder
+pub mod Place

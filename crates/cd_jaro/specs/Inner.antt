@@ -1,0 +1,4 @@
+pub mod Jaro
+pub mod OutOfOrder
+pub mod Place
+pub mod Similarity

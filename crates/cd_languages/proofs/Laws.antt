@@ -1,0 +1,4 @@
+pub mod Check
+pub mod Included
+pub mod Languages
+pub mod Letters

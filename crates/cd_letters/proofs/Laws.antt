@@ -1,0 +1,9 @@
+pub mod BothPut
+pub mod Lacks
+pub mod LayerLetters
+pub mod Letters
+pub mod Meeting
+pub mod Order
+pub mod Placing
+pub mod Ranked
+pub mod Rising

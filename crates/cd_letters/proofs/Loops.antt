@@ -1,0 +1,5 @@
+pub mod Gathering
+pub mod Halving
+pub mod Settling
+pub mod Shifting
+pub mod Sizing

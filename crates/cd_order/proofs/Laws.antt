@@ -1,0 +1,4 @@
+pub mod Arranged
+pub mod Chosen
+pub mod Sorted
+pub mod Sorting

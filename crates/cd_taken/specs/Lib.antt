@@ -1,0 +1,4 @@
+pub mod Taken
+pub mod Unclassed
+pub mod Accents
+pub mod Inner

@@ -1,0 +1,158 @@
+// Which characters of a text are taken into layers, and what the work area holds of them (cd.rs: alpha_unicode_split's filter and lowering).
+ghost use mathlib.Core.Path.{_≡_};
+ghost use mathlib.Core.Bool.{true};
+ghost use Prim.Native.Nat.{_≤_};
+ghost use lib.ListN.{length, replicate};
+ghost use Rattle.base.specs.Put.{put};
+ghost use Rattle.class_builtin.specs.Inner.Words.{packedWords};
+ghost use Rattle.class_records.specs.Records.{goodTable};
+ghost use Rattle.classes.specs.Lookup.{classOf, missing};
+ghost use Rattle.cd_work.specs.Inner.Layout.{lacksStart};
+ghost use Rattle.cd_taken.specs.Taken.{isTaken};
+ghost use Rattle.cd_taken.specs.Unclassed.{unclassed, firstUnclassed};
+ghost use Rattle.cd_taken.specs.Accents.{isAccentuated, someAccented};
+ghost use Rattle.cd_taken.specs.Inner.Area.{slotsOf, letterOf, filled};
+use base::flags::ACCENTUATED;
+use base::flags::CHAR_ALPHABETIC;
+use base::is_set;
+use base::pick;
+use cd_work::letters_start;
+use class_builtin::Table;
+use classes::Class;
+use classes::Found;
+use classes::HINTS;
+use classes::look_up_near;
+
+// What the work area holds of a character: its own range and its lower-case letter; 0 and 0 of one that is not taken.
+struct Letter {
+    range: u32,
+    lower: u32,
+}
+
+// Whether a character of this class is taken.
+fn is_taken(c: Class) -> bool
+    ensures { λ r. ⌜ r ≡ isTaken c ⌝ }
+{
+    is_set(c.flags, CHAR_ALPHABETIC) & (c.range != 0)
+}
+
+fn is_missing(point: u32, hints: &mut [usize; HINTS], table: &Table, classes: &[u8]) -> bool
+    requires { ⌜ (goodTable (now classes) ≡ true) × (now table ≡ packedWords) ⌝ }
+    ensures { λ r. ⌜ r ≡ missing (classOf (now (classes .entry)) point) ⌝ }
+{
+    let Found::At(_) = look_up_near(point, hints, table, classes) else {
+        return true;
+    };
+    false
+}
+
+// Whether 6 is given for a character. One that is its own lower case is not looked up again.
+fn is_unclassed(point: u32, hints: &mut [usize; HINTS], table: &Table, classes: &[u8]) -> bool
+    requires { ⌜ (goodTable (now classes) ≡ true) × (now table ≡ packedWords) ⌝ }
+    ensures { λ r. ⌜ r ≡ unclassed (now (classes .entry)) (classOf (now (classes .entry)) point) ⌝ }
+{
+    let Found::At(c) = look_up_near(point, hints, table, classes) else {
+        return true;
+    };
+    if c.lower == point {
+        return false;
+    }
+    if is_taken(c) {
+        return is_missing(c.lower, hints, table, classes);
+    }
+    false
+}
+
+// The first character for which 6 is given, or the number of characters.
+pub fn first_unclassed(text: &[u32], classes: &[u8]) -> usize
+    requires { ⌜ goodTable (now classes) ≡ true ⌝ }
+    ensures { λ r. ⌜ r ≡ firstUnclassed (now (classes .entry)) (now (text .entry)) ⌝ }
+{
+    let table = class_builtin::table();
+    let mut hints = [0; HINTS];
+    let mut i = 0;
+    while i < text.len() {
+        if is_unclassed(text[i], &mut hints, &table, classes) {
+            return i;
+        }
+        i += 1;
+    }
+    i
+}
+
+fn letter_of(point: u32, hints: &mut [usize; HINTS], table: &Table, classes: &[u8]) -> Letter
+    requires { ⌜ (goodTable (now classes) ≡ true) × (now table ≡ packedWords) ⌝ }
+    ensures { λ r. ⌜ r ≡ letterOf (classOf (now (classes .entry)) point) ⌝ }
+{
+    let Found::At(c) = look_up_near(point, hints, table, classes) else {
+        return Letter { range: 0, lower: 0 };
+    };
+    let taken = is_taken(c);
+    Letter {
+        range: pick(taken, c.range, 0),
+        lower: pick(taken, c.lower, 0),
+    }
+}
+
+// How many slots of the work area a text needs: one for each code point, since each lowers to one letter.
+pub fn slots(text: &[u32]) -> usize
+    ensures { λ r. ⌜ r ≡ slotsOf (now (text .entry)) ⌝ }
+{
+    text.len()
+}
+
+// Puts the ranges of a text and its lower-case letters into their parts of the work area.
+pub fn fill_area(text: &[u32], classes: &[u8], work: &mut [u32])
+    requires { ⌜ (goodTable (now classes) ≡ true) × (lacksStart (slotsOf (now text)) ≤ length (now work)) ⌝ }
+    ensures { λ r. ⌜ now (work .exit) ≡ filled (now (classes .entry)) (now (text .entry)) (now (work .entry)) ⌝ }
+{
+    let letters = letters_start(slots(text));
+    let table = class_builtin::table();
+    let mut hints = [0; HINTS];
+    let mut i = 0;
+    while i < text.len() {
+        let letter = letter_of(text[i], &mut hints, &table, classes);
+        work[i] = letter.range;
+        work[letters + i] = letter.lower;
+        i += 1;
+    }
+}
+
+// Makes the first n words of the work area zero again.
+pub fn clear(work: &mut [u32], n: usize)
+    requires { ⌜ n ≤ length (now work) ⌝ }
+    ensures { λ r. ⌜ now (work .exit) ≡ put (now (work .entry)) 0 (replicate n 0) ⌝ }
+{
+    let mut k = 0;
+    while k < n {
+        work[k] = 0;
+        k += 1;
+    }
+}
+
+fn is_accentuated(point: u32, hints: &mut [usize; HINTS], table: &Table, classes: &[u8]) -> bool
+    requires { ⌜ (goodTable (now classes) ≡ true) × (now table ≡ packedWords) ⌝ }
+    ensures { λ r. ⌜ r ≡ isAccentuated (classOf (now (classes .entry)) point) ⌝ }
+{
+    let Found::At(c) = look_up_near(point, hints, table, classes) else {
+        return false;
+    };
+    is_set(c.flags, ACCENTUATED)
+}
+
+// Whether some of the letters is accentuated.
+pub fn some_accented(letters: &[u32], classes: &[u8]) -> bool
+    requires { ⌜ goodTable (now classes) ≡ true ⌝ }
+    ensures { λ r. ⌜ r ≡ someAccented (now (classes .entry)) (now (letters .entry)) ⌝ }
+{
+    let table = class_builtin::table();
+    let mut hints = [0; HINTS];
+    let mut i = 0;
+    while i < letters.len() {
+        if is_accentuated(letters[i], &mut hints, &table, classes) {
+            return true;
+        }
+        i += 1;
+    }
+    false
+}

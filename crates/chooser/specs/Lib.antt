@@ -1,4 +1,0 @@
-pub mod Cut
-pub mod CutLaws
-pub mod Choose
-pub mod ChooseLaws

@@ -1,0 +1,4 @@
+pub mod Host
+pub mod Lent
+pub mod Matches
+pub mod Tokens

@@ -1,0 +1,99 @@
+-- The flat form of each case of an answer; and the numbers that a burst holds of a line are the fields of its flat score, floats as bits
+-- (`row-fields`).
+-- Assumes nothing.
+use Prim.Native.Nat.{ℕ}
+use mathlib.Core.Path.{_≡_, refl}
+use mathlib.Core.List.{List, [], _∷_, _++_}
+use Rattle.base.specs.declared.Counted.{Counted}
+use Rattle.base.specs.declared.Counted.the-variants.{Count, Refused as NotCounted}
+use Rattle.base.specs.Counted.{values}
+use Rattle.base.specs.Numbers.{bump}
+use Rattle.base.specs.Refusals.{ACCEPTED}
+use Rattle.base.specs.declared.Refusal.{Refusal}
+use Rattle.ratio.specs.declared.Ratios.{Ratios}
+use Rattle.ratio.specs.Rounded.{ZERO, noRatios, bitsOf, bits}
+use Rattle.md.specs.declared.Score.{Score}
+use Rattle.md.specs.declared.Scored.{Scored}
+use Rattle.md.specs.declared.Scored.the-variants.{Score as Told, Refused as Unscored}
+use Rattle.md.specs.Values.{values as scoreValues}
+use Rattle.md_lines.specs.Burst.{numbers, rowNumbers}
+use Rattle.md_chooser.specs.declared.Judged.{Judged}
+use Rattle.md_chooser.specs.declared.Judged.the-variants.{First, Second, FirstRefused, SecondRefused}
+use Rattle.md_chooser.specs.Choose.{values as verdictValues}
+use Rattle.host.specs.declared.HostRead.{HostRead}
+use Rattle.host.specs.declared.HostScore.{HostScore}
+use Rattle.host.specs.declared.HostVerdict.{HostVerdict}
+use Rattle.host.specs.Host.{hostCounted, hostScore, hostVerdict, flatScore}
+
+-- what a refusal becomes, and a count
+abbrev pub refusedRead : Refusal → HostRead
+refusedRead r = record { number = r .number; place = r .place; count = 0 }
+
+abbrev pub countedRead : ℕ → HostRead
+countedRead n = record { number = ACCEPTED; place = 0; count = n }
+
+pub counted-refused : (a : Counted) (r : Refusal) → a ≡ NotCounted r → refusedRead r ≡ hostCounted a
+unfolding hostCounted values
+counted-refused a r e = rw e
+
+pub counted-count : (a : Counted) (n : ℕ) → a ≡ Count n → countedRead n ≡ hostCounted a
+unfolding hostCounted values
+counted-count a n e = rw e
+
+abbrev pub refusedScore : Refusal → Ratios → HostScore
+refusedScore r ratios =
+    record {
+      number = r .number;
+      place = r .place;
+      ratios = ratios;
+      sum = ZERO;
+      fed = 0;
+      stopped = 0;
+    }
+
+abbrev pub toldScore : Score → ℕ → HostScore
+toldScore s stopped =
+    record {
+      number = ACCEPTED;
+      place = 0;
+      ratios = s .ratios;
+      sum = s .sum;
+      fed = s .fed;
+      stopped = stopped;
+    }
+
+pub score-refused : (a : Scored) (r : Refusal) (n : Ratios) → a ≡ Unscored r → n ≡ noRatios → refusedScore r n ≡ hostScore a
+unfolding hostScore flatScore scoreValues
+score-refused a r n e f = rw (e, f)
+
+pub score-told : (a : Scored) (s : Score) (k : ℕ) → a ≡ Told s → k ≡ bump (s .stopped) → toldScore s k ≡ hostScore a
+unfolding hostScore flatScore scoreValues
+score-told a s k e f = rw (e, f)
+
+-- the fields of a flat score, in their order
+abbrev pub fields : HostScore → List ℕ
+fields s =
+    s .number ∷ s .place ∷ (bits (s .ratios) ++ (bitsOf (s .sum) ∷ s .fed ∷ s .stopped ∷ []))
+
+pub row-fields : (a : Scored) → rowNumbers a ≡ fields (hostScore a)
+unfolding rowNumbers numbers hostScore flatScore
+row-fields a = refl
+
+abbrev pub told : ℕ → ℕ → ℕ → ℕ → HostVerdict
+told taken refused number place = record { taken = taken; refused = refused; number = number; place = place }
+
+pub verdict-first : (a : Judged) → a ≡ First → told 1 0 ACCEPTED 0 ≡ hostVerdict a
+unfolding hostVerdict verdictValues
+verdict-first a e = rw e
+
+pub verdict-second : (a : Judged) → a ≡ Second → told 2 0 ACCEPTED 0 ≡ hostVerdict a
+unfolding hostVerdict verdictValues
+verdict-second a e = rw e
+
+pub verdict-first-refused : (a : Judged) (r : Refusal) → a ≡ FirstRefused r → told 0 1 (r .number) (r .place) ≡ hostVerdict a
+unfolding hostVerdict verdictValues
+verdict-first-refused a r e = rw e
+
+pub verdict-second-refused : (a : Judged) (r : Refusal) → a ≡ SecondRefused r → told 0 2 (r .number) (r .place) ≡ hostVerdict a
+unfolding hostVerdict verdictValues
+verdict-second-refused a r e = rw e

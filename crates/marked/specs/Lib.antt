@@ -1,3 +1,0 @@
-pub mod Alone
-pub mod Cases
-pub mod Marked

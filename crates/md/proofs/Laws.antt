@@ -1,0 +1,6 @@
+pub mod Accepted
+pub mod DemandThree
+pub mod Lent
+pub mod MessRatio
+pub mod Plain
+pub mod Scan

@@ -1,0 +1,5 @@
+pub mod Going
+pub mod Lent
+pub mod Plain
+pub mod Ready
+pub mod Scan

@@ -1,0 +1,4 @@
+pub mod CjkInvalidStop
+pub mod TooManyAccentuated
+pub mod TooManySymbolOrPunctuation
+pub mod Unprintable

@@ -1,0 +1,48 @@
+-- How large the counts of accents can be: the accented letters are at most the letters. So a step has room, the counts are small, and
+-- its ratio is at most 1.
+-- Assumes nothing.
+use Prim.Native.Nat.{ℕ, _+_, _*_, _≤_}
+use native.Mathlib.Omega.{arith}
+use Rattle.base.specs.Flags.{has, ALPHABETIC, ACCENTUATED}
+use Rattle.base.specs.Inner.Limits.{LARGEST}
+use Rattle.base.proofs.Laws.Numbers.{bump-small}
+use Rattle.base.proofs.Laws.Tests.{cond-both}
+use Rattle.classes.specs.declared.Class.{Class}
+use Rattle.ratio.specs.Inner.Fraction.{Small}
+use Rattle.ratio.specs.Fraction.{shareOf}
+use Rattle.md_counts.specs.declared.too_many_accentuated.TooManyAccentuated.{TooManyAccentuated}
+use Rattle.md_counts.specs.TooManyAccentuated.{start, counted, feed, counts}
+use Rattle.md_counts.specs.Inner.TooManyAccentuated.{Room}
+
+-- what holds after k characters
+pub record Within (k : ℕ) (s : TooManyAccentuated) : Type 0 where
+  pub characters : s .characters ≤ k
+  pub accentuated : s .accentuated ≤ s .characters
+
+pub start-within : Within 0 start
+start-within = record { characters = omega arith; accentuated = omega arith }
+
+module _ (k : ℕ) (s : TooManyAccentuated) (w : Within k s) where
+  counted-within : (c : Class) → Within (k + 1) (counted s c)
+  unfolding counted
+  counted-within c =
+      let a = bump-small (has (c .flags) ACCENTUATED) in
+      record { characters = omega arith; accentuated = omega arith }
+
+  pub feed-within : (c : Class) → Within (k + 1) (feed s c)
+  unfolding feed
+  feed-within c =
+      cond-both (Within (k + 1)) (has (c .flags) ALPHABETIC) _ _ (counted-within c)
+      (record { characters = omega arith; accentuated = w .accentuated })
+
+  pub within-room : k ≤ LARGEST → Room s
+  within-room h = record { characters = omega arith; accentuated = omega arith }
+
+  pub within-small : k ≤ LARGEST → Small (shareOf (counts s))
+  unfolding counts
+  within-small h = record { num = omega arith; den = omega arith }
+
+  -- 01: ratios of accents are at most 1
+  pub counts-bound : counts s .numerator ≤ 1 * counts s .denominator
+  unfolding counts
+  counts-bound = omega arith

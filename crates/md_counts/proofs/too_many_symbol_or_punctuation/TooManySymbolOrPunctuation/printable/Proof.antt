@@ -1,0 +1,23 @@
+-- Each field is the definition's, count by count. Assumes nothing.
+use Rattle.md_counts.specs.TooManySymbolOrPunctuation.{printable}
+use borrow.Author.Needs.{needs}
+use Rattle.md_counts.proofs.too_many_symbol_or_punctuation.TooManySymbolOrPunctuation.printable.Statement.{statement}
+use Rattle.md_counts.proofs.too_many_symbol_or_punctuation.TooManySymbolOrPunctuation.printable.Tie as tie
+
+returns : tie.Need-returns
+unfolding printable
+returns c = cc
+
+pub printable-spec : {M : Type 1} → statement M
+printable-spec =
+    tie.close
+    (tie.spec
+    (λ c κs. search needs)
+    (λ c. search needs)
+    (λ c κs. search needs)
+    (λ c κs. search needs)
+    (λ c. search needs)
+    (λ c κs. search needs)
+    (λ c κs. search needs)
+    (λ c. search needs)
+    returns)

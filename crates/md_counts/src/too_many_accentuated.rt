@@ -1,0 +1,69 @@
+// Accents: how many of the letters are accented.
+ghost use mathlib.Core.Path.{_≡_};
+ghost use Rattle.md_counts.specs.TooManyAccentuated.{start, feed, counts};
+ghost use Rattle.md_counts.specs.Inner.TooManyAccentuated.{Room};
+ghost use Rattle.ratio.specs.Inner.Fraction.{Small};
+ghost use Rattle.ratio.specs.Fraction.{shareOf};
+use base::flags::ACCENTUATED;
+use base::flags::ALPHABETIC;
+use base::is_set;
+use base::one;
+use classes::Class;
+use ratio::Counts;
+use ratio::Fraction;
+use ratio::at_least;
+use ratio::counts_of;
+
+// Below so many letters the ratio is 0.
+const FEWEST: u32 = 8;
+
+// below this part of all the ratio is 0
+const LEAST_PART: u32 = 7;
+
+const LEAST_WHOLE: u32 = 20;
+
+// The Rust's TooManyAccentuatedPlugin.
+pub struct TooManyAccentuated {
+    // character_count
+    pub characters: u32,
+    // accentuated_count
+    pub accentuated: u32,
+}
+
+impl TooManyAccentuated {
+    pub fn start() -> TooManyAccentuated
+        ensures { λ r. ⌜ r ≡ start ⌝ }
+    {
+        TooManyAccentuated {
+            characters: 0,
+            accentuated: 0,
+        }
+    }
+
+    pub fn feed(self, c: Class) -> TooManyAccentuated
+        requires { ⌜ Room self ⌝ }
+        ensures { λ r. ⌜ r ≡ feed self c ⌝ }
+    {
+        if !is_set(c.flags, ALPHABETIC) {
+            return self;
+        }
+        TooManyAccentuated {
+            characters: self.characters + 1,
+            accentuated: self.accentuated + one(is_set(c.flags, ACCENTUATED)),
+        }
+    }
+
+    pub fn counts(self) -> Counts
+        requires { ⌜ Small (shareOf (counts self)) ⌝ }
+        ensures { λ r. ⌜ r ≡ counts self ⌝ }
+    {
+        let share = Fraction {
+            num: self.accentuated,
+            den: self.characters,
+        };
+        counts_of(
+            share,
+            (FEWEST <= self.characters) & at_least(share, LEAST_PART, LEAST_WHOLE),
+        )
+    }
+}

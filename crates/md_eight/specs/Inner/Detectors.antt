@@ -1,0 +1,28 @@
+-- Words of inner contracts, beside Detectors: `Room`, `Countable`. No public promise rests on them.
+-- Assumes nothing.
+use Rattle.md_eight.specs.declared.Detectors.{Detectors}
+use Rattle.md_eight.specs.Detectors.{counts}
+use Rattle.md_counts.specs.Inner.TooManySymbolOrPunctuation as symbols
+use Rattle.md_counts.specs.Inner.TooManyAccentuated as accents
+use Rattle.md_counts.specs.Inner.Unprintable as unprintable
+use Rattle.md_neighbours.specs.Inner.SuspiciousRange as ranges
+use Rattle.md_neighbours.specs.Inner.SuspiciousDuplicateAccent as doubled
+use Rattle.md_words.specs.Inner.SuperWeirdWord as words
+use Rattle.md_counts.specs.Inner.CjkInvalidStop as stops
+use Rattle.md_words.specs.Inner.ArchaicUpperLower as archaic
+use Rattle.ratio.specs.Inner.Rounded as rounded
+
+-- room for one character more in each count
+pub record Room (s : Detectors) : Type 0 where
+  pub symbols : symbols.Room (s .symbols)
+  pub accents : accents.Room (s .accents)
+  pub unprintable : unprintable.Room (s .unprintable)
+  pub ranges : ranges.Room (s .ranges)
+  pub doubled : doubled.Room (s .doubled)
+  pub words : words.Room (s .words)
+  pub stops : stops.Room (s .stops)
+  pub archaic : archaic.Room (s .archaic)
+
+-- the counts are small enough for ratios
+abbrev pub Countable : Detectors → Type 0
+Countable s = rounded.EachSmall (counts s)

@@ -1,0 +1,2 @@
+pub mod Detectors
+pub mod Inner

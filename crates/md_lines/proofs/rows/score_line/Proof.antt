@@ -1,0 +1,47 @@
+-- A line that was counted is readable, and the tables were checked before. Assumes nothing.
+use mathlib.Core.Path.{sym, _∙_}
+use Rattle.utf8.proofs.Laws.Answer.{readable}
+use Rattle.md_utf8.proofs.Laws.ScoreUtf8.{unread, read}
+use borrow.Author.Needs.{needs}
+use Rattle.md_lines.proofs.rows.score_line.Statement.{statement}
+use Rattle.md_lines.proofs.rows.score_line.Tie as tie
+
+through-requires : tie.Need-through-requires
+through-requires c κs =
+    let met = c .before .before .before in
+    let entry = c .before .before .before .before .before .before .before .before .before .before in
+    (readable _ _ (sym (met .before .before .count-utf8 .ensures) ∙ met .count .given .1), c .before .if1 .taken, entry .pre)
+
+returns : tie.Need-returns
+returns c =
+    let met = c .before .before .before .before .before .before in
+    c .before .before .through .ensures ∙ read _ _ _ _ _ (sym (met .before .before .count-utf8 .ensures) ∙ met .count .given .1)
+
+score-larger-requires : tie.Need-score-larger-requires
+score-larger-requires c κs =
+    let met = c .before .before in
+    let entry = c .before .before .before .before .before .before .before .before .before in
+    (readable _ _ (sym (met .before .before .count-utf8 .ensures) ∙ met .count .given .1), entry .pre)
+
+returns-2 : tie.Need-returns-2
+returns-2 c = unread _ _ _ _ _ (sym (c .before .before .before .count-utf8 .ensures) ∙ c .before .why .given .1)
+
+returns-3 : tie.Need-returns-3
+returns-3 c =
+    let met = c .before .before .before in
+    c .score-larger .ensures ∙ read _ _ _ _ _ (sym (met .before .before .count-utf8 .ensures) ∙ met .count .given .1)
+
+pub score-line-spec : {M : Type 1} → statement M
+score-line-spec =
+    tie.close
+    (tie.spec
+    (λ c κs. search needs)
+    (λ c. search needs)
+    (λ c. search needs)
+    (λ c. search needs)
+    through-requires
+    (λ c. search needs)
+    returns
+    score-larger-requires
+    returns-2
+    returns-3)

@@ -1,0 +1,57 @@
+-- How large the counts of doubled accents can be: a letter adds at most 2. So a step has room, the counts are small, and its ratio is at
+-- most 4. And `plain-letter`: a letter without accent adds only to n, which is the code's short way.
+-- Assumes nothing.
+use Prim.Native.Nat.{ℕ, _+_, _*_, _≤_}
+use mathlib.Core.Path.{_≡_}
+use mathlib.Core.Bool.{false, _&&_}
+use native.Mathlib.Nat.{add-zero}
+use native.Mathlib.Omega.{arith}
+use lib.Dec.{eqb}
+use Rattle.base.specs.Flags.{has, ACCENTUATED, UPPERCASE}
+use Rattle.base.specs.Inner.Limits.{LARGEST}
+use Rattle.base.proofs.Laws.Numbers.{bump-small}
+use Rattle.base.proofs.Laws.Tests.{cond-both}
+use Rattle.classes.specs.declared.Class.{Class}
+use Rattle.ratio.specs.Inner.Fraction.{Small}
+use Rattle.ratio.specs.Fraction.{shareOf}
+use Rattle.md_neighbours.specs.declared.suspicious_duplicate_accent.SuspiciousDuplicateAccent.{SuspiciousDuplicateAccent}
+use Rattle.md_neighbours.specs.SuspiciousDuplicateAccent.{start, latinLetter, both, letter, feed, counts}
+use Rattle.md_neighbours.specs.Inner.SuspiciousDuplicateAccent.{Room, plain}
+
+-- what holds after k characters
+pub record Within (k : ℕ) (s : SuspiciousDuplicateAccent) : Type 0 where
+  pub characters : s .characters ≤ k
+  pub successive : s .successive ≤ 2 * s .characters
+
+pub start-within : Within 0 start
+start-within = record { characters = omega arith; successive = omega arith }
+
+module _ (k : ℕ) (s : SuspiciousDuplicateAccent) (w : Within k s) where
+  letter-within : (c : Class) → Within (k + 1) (letter s c)
+  unfolding letter
+  letter-within c =
+      let u = bump-small (both s (c .flags) ACCENTUATED && both s (c .flags) UPPERCASE) in
+      let b = bump-small (both s (c .flags) ACCENTUATED && eqb (c .base) (s .base)) in
+      record { characters = omega arith; successive = omega arith }
+
+  pub feed-within : (c : Class) → Within (k + 1) (feed s c)
+  unfolding feed
+  feed-within c =
+      cond-both (Within (k + 1)) (latinLetter (c .flags)) _ _ (letter-within c)
+      (record { characters = omega arith; successive = w .successive })
+
+  pub within-room : k ≤ LARGEST → Room s
+  within-room h = record { characters = omega arith; successive = omega arith }
+
+  pub within-small : k ≤ LARGEST → Small (shareOf (counts s))
+  unfolding counts
+  within-small h = record { num = omega arith; den = omega arith }
+
+  -- 01: ratios of doubled accents are at most 4
+  pub counts-bound : counts s .numerator ≤ 4 * counts s .denominator
+  unfolding counts
+  counts-bound = omega arith
+
+pub plain-letter : (s : SuspiciousDuplicateAccent) (c : Class) → has (c .flags) ACCENTUATED ≡ false → plain s c ≡ letter s c
+unfolding plain letter both
+plain-letter s c e = simp (e, add-zero)

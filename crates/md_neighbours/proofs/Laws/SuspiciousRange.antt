@@ -1,0 +1,60 @@
+-- How large the counts of ranges can be: a suspicious character is a printable one. So a step has room, the counts are small, and its
+-- ratio is at most 2. And the last range is one that a character had, so that it has a row in the pair table.
+-- Assumes nothing.
+use Prim.Native.Nat.{ℕ, _+_, _*_, _≤_}
+use mathlib.Core.Bool.{Bool, _&&_}
+use native.Mathlib.Omega.{arith}
+use Rattle.base.specs.Flags.{has, UNPRINTABLE}
+use Rattle.base.specs.Inner.Limits.{LARGEST}
+use Rattle.base.proofs.Laws.Numbers.{bump-small}
+use Rattle.base.proofs.Laws.Tests.{cond-both}
+use Rattle.classes.specs.declared.Class.{Class}
+use Rattle.ratio.specs.Inner.Fraction.{Small}
+use Rattle.ratio.specs.Fraction.{shareOf}
+use Rattle.md_neighbours.specs.declared.suspicious_range.SuspiciousRange.{SuspiciousRange}
+use Rattle.md_neighbours.specs.SuspiciousRange.{start, forgets, forgotten, followed, feed, counts}
+use Rattle.md_neighbours.specs.Inner.SuspiciousRange.{Room}
+
+-- what holds after k characters
+pub record Within (k : ℕ) (s : SuspiciousRange) : Type 0 where
+  pub characters : s .characters ≤ k
+  pub suspicious : s .suspicious ≤ s .characters
+
+pub start-within : Within 0 start
+start-within = record { characters = omega arith; suspicious = omega arith }
+
+module _ (k : ℕ) (s : SuspiciousRange) (w : Within k s) where
+  forgotten-within : Within (k + 1) (forgotten s)
+  unfolding forgotten
+  forgotten-within = record { characters = omega arith; suspicious = omega arith }
+
+  followed-within : (c : Class) (suspicious : Bool) → Within (k + 1) (followed s c suspicious)
+  unfolding followed
+  followed-within c suspicious =
+      let b = bump-small (s .seen && suspicious) in
+      record { characters = omega arith; suspicious = omega arith }
+
+  pub feed-within : (c : Class) (suspicious : Bool) → Within (k + 1) (feed s c suspicious)
+  unfolding feed
+  feed-within c suspicious =
+      cond-both (Within (k + 1)) (has (c .flags) UNPRINTABLE) _ _ (record { characters = omega arith; suspicious = w .suspicious })
+      (cond-both (Within (k + 1)) (forgets (c .flags)) _ _ forgotten-within (followed-within c suspicious))
+
+  pub within-room : k ≤ LARGEST → Room s
+  within-room h = record { characters = omega arith; suspicious = omega arith }
+
+  pub within-small : k ≤ LARGEST → Small (shareOf (counts s))
+  unfolding counts
+  within-small h = record { num = omega arith; den = omega arith }
+
+  -- 01: ratios of ranges are at most 2
+  pub counts-bound : counts s .numerator ≤ 2 * counts s .denominator
+  unfolding counts
+  counts-bound = omega arith
+
+-- the last range stays at most m where the characters' ranges are
+pub last-most : (m : ℕ) (s : SuspiciousRange) (c : Class) (suspicious : Bool) → s .last ≤ m → c .range ≤ m → feed s c suspicious .last ≤ m
+unfolding feed forgotten followed
+last-most m s c suspicious h r =
+    cond-both (λ (t : SuspiciousRange). t .last ≤ m) (has (c .flags) UNPRINTABLE) s _ h
+    (cond-both (λ (t : SuspiciousRange). t .last ≤ m) (forgets (c .flags)) (forgotten s) (followed s c suspicious) (omega arith) r)

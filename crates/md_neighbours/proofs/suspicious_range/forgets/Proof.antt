@@ -1,0 +1,12 @@
+-- The three flag tests of the definition. Assumes nothing.
+use Rattle.md_neighbours.specs.SuspiciousRange.{forgets}
+use borrow.Author.Needs.{needs}
+use Rattle.md_neighbours.proofs.suspicious_range.forgets.Statement.{statement}
+use Rattle.md_neighbours.proofs.suspicious_range.forgets.Tie as tie
+
+returns : tie.Need-returns
+unfolding forgets
+returns c = cc
+
+pub forgets-spec : {M : Type 1} → statement M
+forgets-spec = tie.close (tie.spec (λ c κs. search needs) (λ c κs. search needs) (λ c κs. search needs) returns)

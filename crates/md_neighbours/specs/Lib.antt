@@ -1,0 +1,3 @@
+pub mod SuspiciousRange
+pub mod SuspiciousDuplicateAccent
+pub mod Inner

@@ -1,0 +1,7 @@
+-- Each room is as long as its texts may be. Assumes nothing.
+use borrow.Author.Needs.{needs}
+use Rattle.md_utf8.proofs.rooms.score_larger.Statement.{statement}
+use Rattle.md_utf8.proofs.rooms.score_larger.Tie as tie
+
+pub score-larger-spec : {M : Type 1} → statement M
+score-larger-spec = tie.close (tie.spec (λ c κs. search needs) (λ c. search needs) (λ c κs. search needs) (λ c. search needs))

@@ -1,0 +1,2 @@
+pub mod ScoreUtf8
+pub mod Inner

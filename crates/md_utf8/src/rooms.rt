@@ -1,0 +1,124 @@
+// The score of bytes that were counted, with tables that were checked: the text goes through a room that is no larger than it needs.
+ghost use mathlib.Core.Path.{_≡_};
+ghost use Prim.Native.Nat.{_≤_};
+ghost use lib.ListN.{length};
+ghost use Rattle.utf8.specs.Text.{textOf};
+ghost use Rattle.utf8.specs.Inner.Readable.{Readable};
+ghost use Rattle.md.specs.MessRatio.{messRatio};
+ghost use Rattle.md_utf8.specs.Inner.Lendable.{Lendable};
+ghost use Rattle.md_utf8.specs.Inner.Rooms as rooms;
+use base::limits::LONGEST_TEXT;
+use class_builtin::Table;
+use md::Limit;
+use md::Scored;
+use md::scan::scan_text_in;
+
+// Code points of a text that goes through the small room, which costs little to clear: most console lines.
+pub const SHORT: usize = 256;
+
+// Code points of a text that goes through the middle room; a longer one goes through one of LONGEST_TEXT.
+const MIDDLE: usize = 4096;
+
+// The score of n code points. The built-in table is lent, so that a caller with many lines makes it once.
+pub fn score_read(
+    bytes: &[u8],
+    n: usize,
+    threshold: f32,
+    table: &Table,
+    classes: &[u8],
+    pairs: &[u8],
+) -> Scored
+    requires { ⌜ Readable (now bytes) n × Lendable threshold (now table) (now classes) (now pairs) ⌝ }
+    ensures { λ r. ⌜ r ≡ messRatio (textOf (now (bytes .entry))) threshold (now (classes .entry)) (now (pairs .entry)) ⌝ }
+{
+    if n <= SHORT {
+        return through_short(bytes, n, threshold, table, classes, pairs);
+    }
+    score_larger(bytes, n, threshold, table, classes, pairs)
+}
+
+// The same for a text that is too long for the small room. It stands apart, so that the frame of a short text's call is small too.
+pub fn score_larger(
+    bytes: &[u8],
+    n: usize,
+    threshold: f32,
+    table: &Table,
+    classes: &[u8],
+    pairs: &[u8],
+) -> Scored
+    requires { ⌜ Readable (now bytes) n × Lendable threshold (now table) (now classes) (now pairs) ⌝ }
+    ensures { λ r. ⌜ r ≡ messRatio (textOf (now (bytes .entry))) threshold (now (classes .entry)) (now (pairs .entry)) ⌝ }
+{
+    if n <= MIDDLE {
+        return through_middle(bytes, n, threshold, table, classes, pairs);
+    }
+    through_long(bytes, n, threshold, table, classes, pairs)
+}
+
+fn through_short(
+    bytes: &[u8],
+    n: usize,
+    threshold: f32,
+    table: &Table,
+    classes: &[u8],
+    pairs: &[u8],
+) -> Scored
+    requires { ⌜ Readable (now bytes) n × (n ≤ rooms.SHORT) × Lendable threshold (now table) (now classes) (now pairs) ⌝ }
+    ensures { λ r. ⌜ r ≡ messRatio (textOf (now (bytes .entry))) threshold (now (classes .entry)) (now (pairs .entry)) ⌝ }
+{
+    let mut room = [0u32; SHORT];
+    through(bytes, n, &mut room, threshold, table, classes, pairs)
+}
+
+fn through_middle(
+    bytes: &[u8],
+    n: usize,
+    threshold: f32,
+    table: &Table,
+    classes: &[u8],
+    pairs: &[u8],
+) -> Scored
+    requires { ⌜ Readable (now bytes) n × (n ≤ rooms.MIDDLE) × Lendable threshold (now table) (now classes) (now pairs) ⌝ }
+    ensures { λ r. ⌜ r ≡ messRatio (textOf (now (bytes .entry))) threshold (now (classes .entry)) (now (pairs .entry)) ⌝ }
+{
+    let mut room = [0u32; MIDDLE];
+    through(bytes, n, &mut room, threshold, table, classes, pairs)
+}
+
+fn through_long(
+    bytes: &[u8],
+    n: usize,
+    threshold: f32,
+    table: &Table,
+    classes: &[u8],
+    pairs: &[u8],
+) -> Scored
+    requires { ⌜ Readable (now bytes) n × Lendable threshold (now table) (now classes) (now pairs) ⌝ }
+    ensures { λ r. ⌜ r ≡ messRatio (textOf (now (bytes .entry))) threshold (now (classes .entry)) (now (pairs .entry)) ⌝ }
+{
+    let mut room = [0u32; LONGEST_TEXT];
+    through(bytes, n, &mut room, threshold, table, classes, pairs)
+}
+
+// The text of the bytes, put into the first places of room and scored.
+pub fn through(
+    bytes: &[u8],
+    n: usize,
+    room: &mut [u32],
+    threshold: f32,
+    table: &Table,
+    classes: &[u8],
+    pairs: &[u8],
+) -> Scored
+    requires { ⌜ Readable (now bytes) n × (n ≤ length (now room)) × Lendable threshold (now table) (now classes) (now pairs) ⌝ }
+    ensures { λ r. ⌜ r ≡ messRatio (textOf (now (bytes .entry))) threshold (now (classes .entry)) (now (pairs .entry)) ⌝ }
+{
+    utf8::fill(bytes, room);
+    scan_text_in(
+        &room[..n],
+        Limit::Threshold(threshold),
+        table,
+        classes,
+        pairs,
+    )
+}

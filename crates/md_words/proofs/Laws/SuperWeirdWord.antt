@@ -1,0 +1,126 @@
+-- How large the counts of weird words can be: after k characters at most k stand in words, and those of bad words are among them. So a
+-- step has room, the counts are small, and its ratio is at most 1.
+-- Assumes nothing.
+use Prim.Native.Nat.{ℕ, _+_, _*_, _≤_}
+use mathlib.Core.Bool.{cond, _||_}
+use native.Mathlib.Omega.{arith}
+use lib.Dec.{eqb}
+use Rattle.base.specs.Flags.{has, ASCII-ALPHABETIC, ACCENTUATED, UPPERCASE}
+use Rattle.base.specs.Inner.Limits.{LARGEST}
+use Rattle.base.proofs.Laws.Numbers.{bump-small}
+use Rattle.base.proofs.Laws.Tests.{cond-both}
+use Rattle.classes.specs.declared.Class.{Class}
+use Rattle.ratio.specs.Inner.Fraction.{Small}
+use Rattle.ratio.specs.Fraction.{shareOf}
+use Rattle.md_words.specs.declared.super_weird_word.SuperWeirdWord.{SuperWeirdWord}
+use Rattle.md_words.specs.SuperWeirdWord.{start, closes, counted, letter, symbol, accented, capital, long, close, inside, feed, counts}
+use Rattle.md_words.specs.Inner.SuperWeirdWord.{Room}
+
+-- what holds after k characters
+pub record Within (k : ℕ) (s : SuperWeirdWord) : Type 0 where
+  pub characters : s .characters + s .length ≤ k
+  pub words : s .words ≤ k
+  pub foreign : s .foreign ≤ 2 * s .words
+  pub spoilt : s .spoilt ≤ s .characters
+  pub accents : s .accents ≤ s .length
+  pub uppercase : s .uppercase ≤ s .length
+
+pub start-within : Within 0 start
+start-within =
+    record {
+      characters = omega arith;
+      words = omega arith;
+      foreign = omega arith;
+      spoilt = omega arith;
+      accents = omega arith;
+      uppercase = omega arith;
+    }
+
+module _ (k : ℕ) (s : SuperWeirdWord) (w : Within k s) where
+  letter-within : (f : ℕ) → Within (k + 1) (letter s f)
+  unfolding letter
+  letter-within f =
+      let a = bump-small (has f ACCENTUATED) in
+      let u = bump-small (has f UPPERCASE) in
+      record {
+        characters = omega arith;
+        words = omega arith;
+        foreign = w .foreign;
+        spoilt = w .spoilt;
+        accents = omega arith;
+        uppercase = omega arith;
+      }
+
+  symbol-within : (f : ℕ) → Within (k + 1) (symbol s f)
+  unfolding symbol
+  symbol-within f =
+      let u = bump-small (has f UPPERCASE) in
+      record {
+        characters = omega arith;
+        words = omega arith;
+        foreign = w .foreign;
+        spoilt = w .spoilt;
+        accents = omega arith;
+        uppercase = omega arith;
+      }
+
+  close-within : Within (k + 1) (close s)
+  unfolding close
+  close-within =
+      let p = bump-small (capital s) in
+      let q = bump-small (long s) in
+      let l : cond (s .bad || accented s || capital s || long s) (s .length) 0 ≤ s .length =
+      cond-both (λ (n : ℕ). n ≤ s .length) (s .bad || accented s || capital s || long s) _ _ (omega arith) (omega arith) in
+      record {
+        characters = omega arith;
+        words = omega arith;
+        foreign = omega arith;
+        spoilt = omega arith;
+        accents = omega arith;
+        uppercase = omega arith;
+      }
+
+  -- the character is passed over
+  passed-within : Within (k + 1) s
+  passed-within =
+      record {
+        characters = omega arith;
+        words = omega arith;
+        foreign = w .foreign;
+        spoilt = w .spoilt;
+        accents = w .accents;
+        uppercase = w .uppercase;
+      }
+
+  inside-within : (f : ℕ) → Within (k + 1) (inside s f)
+  unfolding inside
+  inside-within f =
+      cond-both (Within (k + 1)) (closes f) _ _ close-within
+      (cond-both (Within (k + 1)) (counted f) _ _ (symbol-within f) passed-within)
+
+  pub feed-within : (c : Class) → Within (k + 1) (feed s c)
+  unfolding feed
+  feed-within c =
+      cond-both (Within (k + 1)) (has (c .flags) ASCII-ALPHABETIC) _ _ (letter-within (c .flags))
+      (cond-both (Within (k + 1)) (eqb (s .length) 0) _ _ passed-within (inside-within (c .flags)))
+
+  pub within-room : k ≤ LARGEST → Room s
+  within-room h =
+      record {
+        characters = omega arith;
+        words = omega arith;
+        foreign = omega arith;
+        spoilt = omega arith;
+        accents = omega arith;
+        uppercase = omega arith;
+        length = omega arith;
+      }
+
+  pub within-small : k ≤ LARGEST → Small (shareOf (counts s))
+  unfolding counts
+  within-small h = record { num = omega arith; den = omega arith }
+
+  -- 01: ratios of weird words are at most 1
+  pub counts-bound : counts s .numerator ≤ 1 * counts s .denominator
+  unfolding counts
+  counts-bound = omega arith

@@ -1,0 +1,2 @@
+pub mod ArchaicUpperLower
+pub mod SuperWeirdWord

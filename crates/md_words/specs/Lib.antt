@@ -1,0 +1,3 @@
+pub mod SuperWeirdWord
+pub mod ArchaicUpperLower
+pub mod Inner

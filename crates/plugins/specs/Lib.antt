@@ -1,2 +1,0 @@
-pub mod Detectors
-pub mod DetectorsLaws

@@ -1,4 +1,0 @@
-pub mod SuspiciousRange
-pub mod SuspiciousRangeLaws
-pub mod SuspiciousDuplicateAccent
-pub mod SuspiciousDuplicateAccentLaws

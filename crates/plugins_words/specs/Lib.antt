@@ -1,4 +1,0 @@
-pub mod SuperWeirdWord
-pub mod SuperWeirdWordLaws
-pub mod ArchaicUpperLower
-pub mod ArchaicUpperLowerLaws

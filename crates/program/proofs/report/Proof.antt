@@ -1,0 +1,28 @@
+-- The answer picks the line, whose sum is no NaN. Assumes nothing.
+use mathlib.Core.Path.{_∙_, sym}
+use Rattle.program.proofs.Laws.Program.{answer-plain}
+use Rattle.program.proofs.Laws.Pieces.{goes-whole}
+use borrow.Author.Needs.{needs}
+use Rattle.program.proofs.report.Statement.{statement}
+use Rattle.program.proofs.report.Tie as tie
+
+put-score-requires : tie.Need-put-score-requires
+put-score-requires c κs = (answer-plain _ _ (sym (c .before .before .score .given .1) ∙ c .before .before .before .before .answer .ensures) .sum .no-nan, search needs)
+
+returns : tie.Need-returns
+returns c = goes-whole _ _ _ _ _ (sym (c .before .before .before .why .given .1) ∙ c .before .before .before .before .before .answer .ensures) (c .put-refused .ensures)
+
+returns-2 : tie.Need-returns-2
+returns-2 c = goes-whole _ _ _ _ _ (sym (c .before .before .before .score .given .1) ∙ c .before .before .before .before .before .answer .ensures) (c .put-score .ensures)
+
+pub report-spec : {M : Type 1} → statement M
+report-spec =
+    tie.close
+    (tie.spec
+    (λ c κs. search needs)
+    (λ c. search needs)
+    (λ c κs. search needs)
+    (λ c. search needs)
+    put-score-requires
+    returns
+    returns-2)

@@ -1,0 +1,5 @@
+pub mod Program
+pub mod Words
+pub mod Numerals
+pub mod Line
+pub mod Inner

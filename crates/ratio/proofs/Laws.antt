@@ -1,0 +1,15 @@
+pub mod Apart
+pub mod Comparing
+pub mod CutOff
+pub mod CutOffs
+pub mod Demand
+pub mod DemandExample
+pub mod Eight
+pub mod Finite
+pub mod Fraction
+pub mod Grid
+pub mod Once
+pub mod Operations
+pub mod Parts
+pub mod Rounded
+pub mod Summing

@@ -1,0 +1,48 @@
+-- k roundings, one after the other. `Apart k v e`, for a k of up to 8, says that v is e, but for a little more than k parts in 2 ^ 24 of
+-- e: with u = 2 ^ 24, u * u * |v - e| <= k * (u + 8) * e. The 8 is room for the second order, since each rounding but the first is of a
+-- number that is off already. After eight that is within 9 parts in 2 ^ 24 (`apart-nine`). Nothing here is about floats.
+-- Assumes nothing.
+use Prim.Native.Nat.{ℕ, suc, _+_, _*_, _^_, _≤_}
+use native.Mathlib.Nat.{mul-le-mul-right}
+use native.Mathlib.Omega.{arith}
+use Rattle.ratio.proofs.Laws.Once.{U, Once}
+
+abbrev UU : ℕ
+UU = 2 ^ 48
+
+abbrev pub Apart : ℕ → ℕ → ℕ → Type 0
+Apart k v e = (UU * v ≤ UU * e + (U + 8) * (k * e)) × (UU * e ≤ UU * v + (U + 8) * (k * e))
+
+pub apart-once : (v e : ℕ) → Once v e → Apart 1 v e
+apart-once v e h = omega arith
+
+pub apart-more : (k j v e : ℕ) → k ≤ j → Apart k v e → Apart j v e
+apart-more k j v e l h = omega (arith, mul-le-mul-right e l)
+
+pub apart-scale : (k v e c : ℕ) → Apart k v e → Apart k (v * c) (e * c)
+apart-scale k v e c h = omega (arith, mul-le-mul-right c (h .0), mul-le-mul-right c (h .1))
+
+pub apart-add : (k v e w g : ℕ) → Apart k v e → Apart k w g → Apart k (v + w) (e + g)
+apart-add k v e w g h i = omega arith
+
+-- what is rounded next is at most e and 8 parts in 2 ^ 24 of it
+eight : (k v e : ℕ) → k ≤ 7 → Apart k v e → U * v ≤ (U + 8) * e
+eight k v e K h = omega (arith, mul-le-mul-right e K)
+
+pub apart-round : (k v e w : ℕ) → k ≤ 7 → Apart k v e → Once w v → Apart (suc k) w e
+apart-round k v e w K h o = let b = eight k v e K h in (above b (h .0) (o .0), below b (h .1) (o .1))
+  where
+    above : U * v ≤ (U + 8) * e → UU * v ≤ UU * e + (U + 8) * (k * e) → U * w ≤ U * v + v → UU * w ≤ UU * e + (U + 8) * (suc k * e)
+    above b h o = omega arith
+
+    below : U * v ≤ (U + 8) * e → UU * e ≤ UU * v + (U + 8) * (k * e) → U * v ≤ U * w + v → UU * e ≤ UU * w + (U + 8) * (suc k * e)
+    below b h o = omega arith
+
+abbrev pub Nine : ℕ → ℕ → Type 0
+Nine v e = (U * v ≤ U * e + 9 * e) × (U * e ≤ U * v + 9 * e)
+
+pub apart-nine : (v e : ℕ) → Apart 8 v e → Nine v e
+apart-nine v e h = omega arith
+
+pub apart-twice : (k v e : ℕ) → k ≤ 8 → Apart k v e → v ≤ 2 * e
+apart-twice k v e K h = omega (arith, mul-le-mul-right e K)

@@ -1,0 +1,4 @@
+pub mod Eight
+pub mod Finite
+pub mod Fraction
+pub mod Rounded

@@ -1,0 +1,4 @@
+pub mod ByLead
+pub mod Complete
+pub mod Encoding
+pub mod Sound

@@ -1,0 +1,2 @@
+pub mod ByLead
+pub mod WellFormed

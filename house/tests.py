@@ -1,0 +1,98 @@
+#!/usr/bin/env python3
+"""Whether house/definitions.py and promises.py notice what they are there for: each fault is put into a copy of the tree, and must be found."""
+import shutil
+import subprocess
+import sys
+import tempfile
+from pathlib import Path
+
+ROOT = Path(__file__).resolve().parent.parent
+
+
+def changed(path, old, new):
+    text = path.read_text(encoding="utf-8")
+    assert old in text, f"{path}: {old}"
+    path.write_text(text.replace(old, new, 1), encoding="utf-8")
+
+
+def law_among_definitions(tree):
+    path = tree / "crates/base/specs/Numbers.antt"
+    path.write_text(path.read_text(encoding="utf-8") + "\npub bump-of-true : bump true ≡ 1\nbump-of-true = refl\n", encoding="utf-8")
+
+
+def believed_word_inside(tree):
+    inner = tree / "crates/md/specs/Inner/Strange.antt"
+    inner.write_text("-- Assumes nothing.\nuse lib.Ieee.{Float, ofBits, binary32}\n\nabbrev pub DEFAULT : Float\nDEFAULT = ofBits binary32 0x3E4CCCCD\n", encoding="utf-8")
+    page = tree / "crates/md/specs/MessRatio.antt"
+    changed(page, "DEFAULT-THRESHOLD = ofBits binary32 0x3E4CCCCD", "DEFAULT-THRESHOLD = DEFAULT")
+    changed(page, "use Rattle.md.specs.Scan", "use Rattle.md.specs.Inner.Strange.{DEFAULT}\nuse Rattle.md.specs.Scan")
+
+
+def strange_line(tree):
+    path = tree / "crates/base/specs/Numbers.antt"
+    path.write_text(path.read_text(encoding="utf-8") + "\npostulate strange\n", encoding="utf-8")
+
+
+def page_edited(tree):
+    changed(tree / "docs/DEFINITIONS.md", "bump b = cond b 1 0", "bump b = cond b 1 1")
+
+
+def definition_edited(tree):
+    changed(tree / "crates/base/specs/Numbers.antt", "bump b = cond b 1 0", "bump b = cond b 1 1")
+
+
+def sentence_without_definition(tree):
+    path = tree / "house/sentences.txt"
+    path.write_text(path.read_text(encoding="utf-8") + "\n> A sentence that nobody has defined.\n", encoding="utf-8")
+
+
+def definition_without_sentence(tree):
+    changed(tree / "house/sentences.txt", "= ratio/Demand\n", "")
+
+
+def edit_not_listed(tree):
+    (tree / "crates/base/must-fail/strange.edit").write_text("A strange program.\nfile: src/lib.rt\nold: 1\nnew: 2\n", encoding="utf-8")
+
+
+def edits_kind_changed(tree):
+    edit = sorted((tree / "crates/base/must-fail").glob("*.edit"))[0]
+    edit.write_text(edit.read_text(encoding="utf-8").replace("file: src/", "file: specs/"), encoding="utf-8")
+
+
+FAULTS = [
+    ("definitions.py", law_among_definitions),
+    ("definitions.py", believed_word_inside),
+    ("definitions.py", strange_line),
+    ("definitions.py", page_edited),
+    ("definitions.py", definition_edited),
+    ("definitions.py", sentence_without_definition),
+    ("definitions.py", definition_without_sentence),
+    ("promises.py", edit_not_listed),
+    ("promises.py", edits_kind_changed),
+]
+
+
+def run(tree, script):
+    return subprocess.run([sys.executable, "-B", str(tree / "house" / script)], capture_output=True, text=True).returncode
+
+
+def main():
+    missed = []
+    with tempfile.TemporaryDirectory() as room:
+        for number, (script, fault) in enumerate([("definitions.py", None), ("promises.py", None)] + FAULTS):
+            tree = Path(room) / str(number)
+            for part in ("crates", "docs", "house"):
+                shutil.copytree(ROOT / part, tree / part, ignore=shutil.ignore_patterns("stdin", "stdout", "__pycache__"))
+            if fault:
+                fault(tree)
+            if (run(tree, script) != 0) != (fault is not None):
+                missed.append(fault.__name__ if fault else f"the tree as it is, {script}")
+            shutil.rmtree(tree)
+    if missed:
+        print(f"tests.py: not as it should be: {', '.join(missed)}", file=sys.stderr)
+        sys.exit(1)
+    print(f"house: {len(FAULTS)} faults put in, {len(FAULTS)} found")
+
+
+if __name__ == "__main__":
+    main()
