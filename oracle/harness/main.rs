@@ -1,6 +1,6 @@
 // The oracle's program: document 01's tables, checks, cases and answers, all from the crate's own code.
 //   oracle tables DIR     writes the lent tables and their readable twins
-//   oracle builtin DIR    writes the crate builtin's src/words.rt and specs/Words.antt, as words.rt.txt and Words.antt.txt
+//   oracle builtin DIR    writes crate class_builtin's src/words.rt, specs/Words.antt and specs/Inner/Words.antt, as words.rt.txt, Words.antt.txt and Inner-Words.antt.txt
 //   oracle check          holds the crate's data to the rules of 01, over every scalar value
 //   oracle cases          runs cases (a) to (l) of 01 and the program's example
 //   oracle serve          answers request lines (see serve.rs)
