@@ -1,8 +1,8 @@
 -- The Jaro measure of two lists of letters (01, Layers and rankings: "Jaro, from the layer's ordered letters to the record's: window half
 -- the longer length less 1, at least 0; each letter takes the first free equal one in it; m matches, t half the out-of-order ones rounded
 -- down; m = 0 gives 0, else (m/a + m/b + (m-t)/m)/3 in f64, left to right"). It is the measure that goes by the name of M. A. Jaro (Journal of
--- the American Statistical Association 84, 1989) as it is generally published, with its three weights equal. `layer` is the layer's ordered letters, `language` those of the language record. It says nothing of the f32:
--- that is Similarity.
+-- the American Statistical Association 84, 1989) as it is generally published, with its three weights equal. `layer` is the layer's ordered
+-- letters, `language` those of the language record. It says nothing of the f32: that is Similarity.
 -- Assumes nothing.
 use Prim.Native.Nat.{ℕ, zero, suc, _+_, _-_, _/_}
 use mathlib.Core.Bool.{Bool, true, false, cond, not, _&&_}
