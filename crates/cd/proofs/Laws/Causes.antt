@@ -9,6 +9,7 @@ use lib.Dec.{ltb}
 use lib.Ieee.{Float}
 use lib.ListN.{length}
 use borrow.Author.Tests.{lt-ltb, le-ltb, ltb-false}
+use Rattle.base.specs.declared.Cause.{Cause}
 use Rattle.base.specs.declared.Cause.the-variants.{Allowed, Refused}
 use Rattle.base.specs.declared.Refusal.{Refusal}
 use Rattle.base.specs.Causes.{refusedAt, given, firstOf}
@@ -53,9 +54,9 @@ module _ (text classes t included : List ℕ) (work room : ℕ) where
     pub included-bad : (r : Refusal) → badIncluded included t ≡ Refused r → Refused r ≡ firstOf (ofLanguages text classes t included work room)
     included-bad r e = sym (first-on _ (badLanguages t) g ∙ first-refused _ (badIncluded included t) r e)
 
-    pub languages-on : badIncluded included t ≡ Allowed
-        → firstOf (ofText text classes t work room) ≡ firstOf (ofLanguages text classes t included work room)
-    languages-on e = sym (first-on _ (badLanguages t) g ∙ first-on _ (badIncluded included t) e)
+    pub languages-on : badIncluded included t ≡ Allowed → (c : Cause) → c ≡ firstOf (ofText text classes t work room)
+        → c ≡ firstOf (ofLanguages text classes t included work room)
+    languages-on e c o = o ∙ sym (first-on _ (badLanguages t) g ∙ first-on _ (badIncluded included t) e)
 
 module _ (text classes pairs t included : List ℕ) (work room : ℕ) where
   pub classes-bad : (r : Refusal) → badClasses classes ≡ Refused r → Refused r ≡ firstOf (ofTables text classes pairs t included work room)
@@ -65,9 +66,9 @@ module _ (text classes pairs t included : List ℕ) (work room : ℕ) where
     pub pairs-bad : (r : Refusal) → badPairs pairs ≡ Refused r → Refused r ≡ firstOf (ofTables text classes pairs t included work room)
     pairs-bad r e = sym (first-on _ (badClasses classes) g ∙ first-refused _ (badPairs pairs) r e)
 
-    pub tables-on : badPairs pairs ≡ Allowed
-        → firstOf (ofLanguages text classes t included work room) ≡ firstOf (ofTables text classes pairs t included work room)
-    tables-on e = sym (first-on _ (badClasses classes) g ∙ first-on _ (badPairs pairs) e)
+    pub tables-on : badPairs pairs ≡ Allowed → (c : Cause) → c ≡ firstOf (ofLanguages text classes t included work room)
+        → c ≡ firstOf (ofTables text classes pairs t included work room)
+    tables-on e c o = o ∙ sym (first-on _ (badClasses classes) g ∙ first-on _ (badPairs pairs) e)
 
   module _ (threshold : Float) where
     pub cause-long : LONGEST-RANKED < length text → refusedAt TOO-LONG 0 ≡ causes text threshold classes pairs t included work room
@@ -79,10 +80,10 @@ module _ (text classes pairs t included : List ℕ) (work room : ℕ) where
       unfolding causes firstOf tooLong notFinite given refusedAt
       cause-unbounded e = rw (le-ltb LONGEST-RANKED (length text) h, e)
 
-      pub cause-on : isFinite threshold ≡ true
-          → firstOf (ofTables text classes pairs t included work room) ≡ causes text threshold classes pairs t included work room
+      pub cause-on : isFinite threshold ≡ true → (c : Cause) → c ≡ firstOf (ofTables text classes pairs t included work room)
+          → c ≡ causes text threshold classes pairs t included work room
       unfolding causes firstOf tooLong notFinite given refusedAt
-      cause-on e = rw (le-ltb LONGEST-RANKED (length text) h, e)
+      cause-on e c o = o ∙ rw (le-ltb LONGEST-RANKED (length text) h, e)
 
 -- ---- where there is no cause
 or-free : (a b : Bool) → a || b ≡ false → (a ≡ false) × (b ≡ false)
@@ -121,11 +122,11 @@ module _ (text classes pairs t included : List ℕ) (work room : ℕ) where
         ltb-false room (languages t) (r .0),
       )
 
-  module _ (threshold : Float) (e : causes text threshold classes pairs t included work room ≡ Allowed) where
+  module _ (threshold : Float) (c : Cause) (first : c ≡ causes text threshold classes pairs t included work room) (e : c ≡ Allowed) where
     both : Free text classes pairs t included work × (languages t ≤ room)
     unfolding causes
     both =
-        let a = first-free (tooLong text) _ e in
+        let a = first-free (tooLong text) _ (sym first ∙ e) in
         let b = first-free (notFinite threshold) _ (a .1) in
         free (a .0) (b .1)
 

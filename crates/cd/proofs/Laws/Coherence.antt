@@ -156,25 +156,23 @@ module _ (text classes pairs t included w : List ℕ) (free : Free text classes 
         ∙ filled-back classes text w fill-room (words slots) (omega arith) in
         e ∙ put-forgets u w (replicate (WORK-PER-POINT * length text) 0) (words slots) (omega (arith, zeros)) back
 
-module _ (text : List ℕ) (threshold : Float) (small : ℕ) (classes pairs t included : List ℕ) (work room : ℕ) where
-  pub refused-answer : (r : Refusal) → causes text threshold classes pairs t included work room ≡ Refused r
-      → refusedRanking (r .number) (r .place) ≡ coherenceRatio text threshold small classes pairs t included work room
-  unfolding coherenceRatio answered
-  refused-answer r e = rw e
+-- ---- what each way through the call shows
+module _ (text : List ℕ) (threshold : Float) (small : ℕ) (classes pairs t included : List ℕ) (work room : ℕ) (w : List ℕ) where
+  -- the answer is a, and the work area is left as new
+  abbrev Ends : Ranking → List ℕ → Type 0
+  Ends a new =
+      (a ≡ coherenceRatio text threshold small classes pairs t included work room)
+      × (new ≡ workAfter (causes text threshold classes pairs t included work room) text w)
 
-  pub allowed-answer : causes text threshold classes pairs t included work room ≡ Allowed
-      → byValue (matchesOf text threshold small classes pairs t included) ≡ coherenceRatio text threshold small classes pairs t included work room
-  unfolding coherenceRatio answered
-  allowed-answer e = rw e
+  module _ (c : Cause) (first : c ≡ causes text threshold classes pairs t included work room) where
+    pub refused-ends : (r : Refusal) → c ≡ Refused r → (a : Ranking) → a ≡ refusedRanking (r .number) (r .place) → Ends a w
+    unfolding coherenceRatio answered workAfter
+    refused-ends r e a d = rw (sym first ∙ e) (d, refl)
 
-module _ {c : Cause} (text w : List ℕ) where
-  pub refused-work : {r : Refusal} → c ≡ Refused r → w ≡ workAfter c text w
-  unfolding workAfter
-  refused-work e = rw e
-
-  pub allowed-work : c ≡ Allowed → cleared text w ≡ workAfter c text w
-  unfolding workAfter
-  allowed-work e = rw e
+    pub allowed-ends : c ≡ Allowed → (a : Ranking) (new : List ℕ)
+        → (a ≡ byValue (matchesOf text threshold small classes pairs t included)) × (new ≡ cleared text w) → Ends a new
+    unfolding coherenceRatio answered workAfter
+    allowed-ends e a new d = rw (sym first ∙ e) d
 
 -- 0.1 is finite, so that the cause between the two is never given
 pub default-finite : isFinite DEFAULT-THRESHOLD ≡ true
@@ -193,3 +191,10 @@ pub default-work : (text classes pairs t included w : List ℕ) (work room : ℕ
     ≡ workAfter (causesDefault text classes pairs t included work room) text w
 default-work text classes pairs t included w work room =
     ap (λ (c : Cause). workAfter c text w) (default-causes text classes pairs t included work room DEFAULT-THRESHOLD default-finite)
+
+pub default-ends : (text : List ℕ) (small : ℕ) (classes pairs t included : List ℕ) (work room : ℕ) (w : List ℕ) (a : Ranking) (new : List ℕ)
+    → Ends text DEFAULT-THRESHOLD small classes pairs t included work room w a new
+    → (a ≡ coherenceRatioDefault text small classes pairs t included work room)
+    × (new ≡ workAfter (causesDefault text classes pairs t included work room) text w)
+default-ends text small classes pairs t included work room w a new e =
+    (e .0 ∙ default-same text small classes pairs t included work room, e .1 ∙ default-work text classes pairs t included w work room)

@@ -56,11 +56,11 @@ module _ (text : List ℕ) (threshold : Float) (small : ℕ) (classes pairs t in
       → Fits room (answered c (matchesOf text threshold small classes pairs t included))
   unfolding answered matchesOf
   answer-fits work room Allowed e =
-      let free : Free text classes pairs t included work = allowed-free text classes pairs t included work room threshold e in
+      let free : Free text classes pairs t included work = allowed-free text classes pairs t included work room threshold _ refl e in
       let most : languages t ≤ MOST-LANGUAGES = good-most t (free .comparable .languages) in
       let few =
       ranking-count t (keptOf text threshold small classes pairs t included) most (kept-known text classes pairs t included work free threshold small) in
-      (omega (arith, few, most), omega (arith, few, allowed-room text classes pairs t included work room threshold e))
+      (omega (arith, few, most), omega (arith, few, allowed-room text classes pairs t included work room threshold _ refl e))
   answer-fits work room (Refused r) e =
       let none = refused-count (r .number) (r .place) in
       (omega (arith, none), omega (arith, none))

@@ -23,6 +23,7 @@ use Rattle.md_eight.specs.Detectors.{start, lastRange}
 use Rattle.md_eight.specs.Inner.Detectors.{Room, Countable}
 use Rattle.md_eight.proofs.Loops.Detectors.{within-room, within-countable}
 use Rattle.md.specs.declared.Limit.{Limit}
+use Rattle.md.specs.declared.Scored.{Scored}
 use Rattle.md.specs.Text.{total, checkpoint}
 use Rattle.md.specs.Scan.{fed, classAt, unclassed, stateAt, stops, sumOf, reaches, scored, acceptedScore, noClass}
 use Rattle.md.specs.Inner.Scan.{refused, scan}
@@ -105,13 +106,13 @@ module _ (classes pairs text : List ℕ) (limit : Limit) where
 
       -- the scan stops
       pub going-stopped : (o : Bool) → o ≡ (checkpoint (length text) i && reaches limit (sumOf t)) → o ≡ true
-          → stoppedAfter classes text t i ≡ scan classes pairs text limit
+          → (a : Scored) → a ≡ stoppedAfter classes text t i → a ≡ scan classes pairs text limit
       unfolding scan noClass acceptedScore stoppedAfter
-      going-stopped o p q =
+      going-stopped o p q a d =
           let h′ : i < total text = omega (arith, g .counted) in
           let k : first (stops classes pairs text limit) (total text) ≡ i =
           sym (g .running) ∙ first-hit (stops classes pairs text limit) (total text) i h′ (fed-over o p ∙ q) in
-          simp (k, lt-ltb i (total text) h′, fed-classed) (rw fed-state)
+          d ∙ simp (k, lt-ltb i (total text) h′, fed-classed) (rw fed-state)
 
     -- every character was fed
     pub going-ended : n ≤ i → scored s n false ≡ scan classes pairs text limit

@@ -1,7 +1,7 @@
 -- What each verdict shows of the part that is handed back, and of the scores.
 -- Assumes nothing.
 use Prim.Native.Nat.{ℕ}
-use mathlib.Core.Path.{_≡_}
+use mathlib.Core.Path.{_≡_, sym, _∙_}
 use mathlib.Core.Bool.{true, false}
 use mathlib.Core.List.{List, []}
 use lib.Ieee.{lt}
@@ -9,6 +9,7 @@ use Rattle.base.specs.declared.Refusal.{Refusal}
 use Rattle.md.specs.declared.Score.{Score}
 use Rattle.md.specs.declared.Scored.{Scored}
 use Rattle.md.specs.declared.Scored.the-variants.{Refused, Score as Told}
+use Rattle.md_chooser.specs.declared.Judged.{Judged}
 use Rattle.md_chooser.specs.declared.Judged.the-variants.{First, Second, FirstRefused, SecondRefused}
 use Rattle.md_chooser.specs.Cut.{cut}
 use Rattle.md_chooser.specs.Choose.{judged, verdictOf, partOf, chosen}
@@ -30,19 +31,19 @@ pub else-first : (a b : Scored) (s t : Score) → a ≡ Told s → b ≡ Told t 
 unfolding judged
 else-first a b s t e f l = rw (e, f, l)
 
-module _ (first second classes pairs : List ℕ) where
-  pub chosen-first : verdictOf first second classes pairs ≡ First → cut first ≡ chosen first second classes pairs
+module _ (first second classes pairs : List ℕ) (v : Judged) (f : v ≡ verdictOf first second classes pairs) where
+  pub chosen-first : v ≡ First → cut first ≡ chosen first second classes pairs
   unfolding chosen partOf
-  chosen-first e = rw e
+  chosen-first e = rw (sym f ∙ e)
 
-  pub chosen-second : verdictOf first second classes pairs ≡ Second → cut second ≡ chosen first second classes pairs
+  pub chosen-second : v ≡ Second → cut second ≡ chosen first second classes pairs
   unfolding chosen partOf
-  chosen-second e = rw e
+  chosen-second e = rw (sym f ∙ e)
 
-  pub chosen-refused : (r : Refusal) → verdictOf first second classes pairs ≡ FirstRefused r → [] ≡ chosen first second classes pairs
+  pub chosen-refused : (r : Refusal) → v ≡ FirstRefused r → [] ≡ chosen first second classes pairs
   unfolding chosen partOf
-  chosen-refused r e = rw e
+  chosen-refused r e = rw (sym f ∙ e)
 
-  pub chosen-refused-second : (r : Refusal) → verdictOf first second classes pairs ≡ SecondRefused r → [] ≡ chosen first second classes pairs
+  pub chosen-refused-second : (r : Refusal) → v ≡ SecondRefused r → [] ≡ chosen first second classes pairs
   unfolding chosen partOf
-  chosen-refused-second r e = rw e
+  chosen-refused-second r e = rw (sym f ∙ e)

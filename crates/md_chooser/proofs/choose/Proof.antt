@@ -15,18 +15,18 @@ slice-aggregate-result-2 c = sym (length-take-le _ _ (c .before .kept2 .ensures 
 returns : tie.Need-returns
 returns c =
     let judged = c .before .before .before .before .verdict in
-    c .before .kept .ensures .is ∙ chosen-first _ _ _ _ (sym (judged .ensures) ∙ c .before .before .enum-told .given .1)
+    c .before .kept .ensures .is ∙ chosen-first _ _ _ _ _ (judged .ensures) (c .before .before .enum-told .given .1)
 
 returns-2 : tie.Need-returns-2
 returns-2 c =
     let judged = c .before .before .before .before .verdict in
-    c .before .kept2 .ensures .is ∙ chosen-second _ _ _ _ (sym (judged .ensures) ∙ c .before .before .enum-told2 .given .1)
+    c .before .kept2 .ensures .is ∙ chosen-second _ _ _ _ _ (judged .ensures) (c .before .before .enum-told2 .given .1)
 
 returns-3 : tie.Need-returns-3
-returns-3 c = chosen-refused _ _ _ _ _ (sym (c .before .before .before .verdict .ensures) ∙ c .before .enum-told3 .given .1)
+returns-3 c = chosen-refused _ _ _ _ _ (c .before .before .before .verdict .ensures) _ (c .before .enum-told3 .given .1)
 
 returns-4 : tie.Need-returns-4
-returns-4 c = chosen-refused-second _ _ _ _ _ (sym (c .before .before .before .verdict .ensures) ∙ c .before .enum-told4 .given .1)
+returns-4 c = chosen-refused-second _ _ _ _ _ (c .before .before .before .verdict .ensures) _ (c .before .enum-told4 .given .1)
 
 pub choose-spec : {M : Type 1} → statement M
 choose-spec =

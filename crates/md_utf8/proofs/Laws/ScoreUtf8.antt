@@ -20,6 +20,7 @@ use Rattle.utf8.specs.Answer.{manyBytes, illFormed, manyPoints}
 use Rattle.utf8.specs.Inner.Answer.{inBytes, unreadable, countUtf8}
 use Rattle.utf8.proofs.Laws.Answer.{counted-free}
 use Rattle.md.specs.declared.Limit.the-variants.{Threshold}
+use Rattle.md.specs.declared.Scored.{Scored}
 use Rattle.md.specs.declared.Scored.the-variants.{Refused}
 use Rattle.ratio.specs.Finite.{notFinite}
 use Rattle.md.specs.MessRatio.{DEFAULT-THRESHOLD, ofScoring, causes, messRatio}
@@ -39,10 +40,12 @@ module _ (bytes : List ℕ) (threshold : Float) (classes pairs : List ℕ) where
       (first-front (inBytes bytes) (ofScoring (textOf bytes) threshold classes pairs) r (not-counted (unreadable bytes) (length (textOf bytes)) r e)))
 
   -- the answer for bytes that were
-  pub read : (n : ℕ) → countUtf8 bytes ≡ Count n → messRatio (textOf bytes) threshold classes pairs ≡ messRatioUtf8 bytes threshold classes pairs
+  pub read : (n : ℕ) → countUtf8 bytes ≡ Count n → (a : Scored) → a ≡ messRatio (textOf bytes) threshold classes pairs
+      → a ≡ messRatioUtf8 bytes threshold classes pairs
   unfolding messRatioUtf8 causesUtf8 messRatio causes unreadable
-  read n e =
-      ap (λ (c : Cause). unless c (acceptedScore classes pairs (textOf bytes) (Threshold threshold)))
+  read n e a s =
+      s
+      ∙ ap (λ (c : Cause). unless c (acceptedScore classes pairs (textOf bytes) (Threshold threshold)))
       (sym (first-past (inBytes bytes) (ofScoring (textOf bytes) threshold classes pairs) (counted-free bytes n e)))
 
   pub utf8-plain : PlainAnswer (messRatioUtf8 bytes threshold classes pairs)

@@ -28,13 +28,13 @@ returns-2 c =
     let met = lent .before .before .before .before in
     let counted = sym (met .before .before .count-utf8 .ensures) ∙ met .count .given .1 in
     let can = readable _ _ counted in
-    ratio-lent _ _ _ _ (omega (arith, can .few, can .count)) _ (sym (lent .before .before .check-lent .ensures) ∙ lent .fault .given .1)
-    ∙ read _ _ _ _ _ counted
+    read _ _ _ _ _ counted _
+    (ratio-lent _ _ _ _ (omega (arith, can .few, can .count)) _ (sym (lent .before .before .check-lent .ensures) ∙ lent .fault .given .1))
 
 returns-3 : tie.Need-returns-3
 returns-3 c =
     let met = c .before .before .before .before .before .before .before in
-    c .score-read .ensures ∙ read _ _ _ _ _ (sym (met .before .before .count-utf8 .ensures) ∙ met .count .given .1)
+    read _ _ _ _ _ (sym (met .before .before .count-utf8 .ensures) ∙ met .count .given .1) _ (c .score-read .ensures)
 
 pub mess-ratio-utf8-spec : {M : Type 1} → statement M
 mess-ratio-utf8-spec =

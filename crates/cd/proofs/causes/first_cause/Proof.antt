@@ -17,7 +17,9 @@ returns-2 c =
 returns-3 : tie.Need-returns-3
 returns-3 c =
     let at-if1 = c .before .before .before in
-    c .of-tables .ensures ∙ cause-on _ _ _ _ _ _ _ _ (at-if1 .if1 .left) (sym (c .before .before .is-finite .ensures) ∙ not-false _ (c .before .if2 .left))
+    cause-on _ _ _ _ _ _ _ _ (at-if1 .if1 .left) (sym (c .before .before .is-finite .ensures) ∙ not-false _ (c .before .if2 .left))
+    _
+    (c .of-tables .ensures)
 
 pub first-cause-spec : {M : Type 1} → statement M
 first-cause-spec =

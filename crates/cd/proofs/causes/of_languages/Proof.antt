@@ -22,7 +22,10 @@ returns-3 c =
     let at-included = c .before .before .before in
     let at-enum-told = at-included .before in
     let at-languages = at-enum-told .before .before in
-    c .of-text .ensures ∙ languages-on _ _ _ _ _ _ (sym (at-languages .bad-languages .ensures) ∙ at-enum-told .enum-told .given .1) (sym (at-included .bad-included .ensures) ∙ c .before .enum-told2 .given .1)
+    languages-on _ _ _ _ _ _ (sym (at-languages .bad-languages .ensures) ∙ at-enum-told .enum-told .given .1)
+    (sym (at-included .bad-included .ensures) ∙ c .before .enum-told2 .given .1)
+    _
+    (c .of-text .ensures)
 
 pub of-languages-spec : {M : Type 1} → statement M
 of-languages-spec =

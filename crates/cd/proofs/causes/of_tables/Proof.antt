@@ -30,7 +30,10 @@ returns-3 c =
     let at-pairs = c .before .before .before in
     let at-enum-told = at-pairs .before in
     let at-classes = at-enum-told .before .before in
-    c .of-languages .ensures ∙ tables-on _ _ _ _ _ _ _ (sym (at-classes .bad-classes .ensures) ∙ at-enum-told .enum-told .given .1) (sym (at-pairs .bad-pairs .ensures) ∙ c .before .enum-told2 .given .1)
+    tables-on _ _ _ _ _ _ _ (sym (at-classes .bad-classes .ensures) ∙ at-enum-told .enum-told .given .1)
+    (sym (at-pairs .bad-pairs .ensures) ∙ c .before .enum-told2 .given .1)
+    _
+    (c .of-languages .ensures)
 
 pub of-tables-spec : {M : Type 1} → statement M
 of-tables-spec =

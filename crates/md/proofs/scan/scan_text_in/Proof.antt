@@ -87,13 +87,14 @@ returns-2 : tie.Need-returns-2 Inv-loop μ-loop
 returns-2 c =
     let fed = c .before .before .before in
     let turn = fed .before .before .before .before .before in
-    c .stopped-after .ensures
-    ∙ going-stopped _ _ _ _ (turn .before .loop .inv) _ _ (turn .loop-test .taken)
+    going-stopped _ _ _ _ (turn .before .loop .inv) _ _ (turn .loop-test .taken)
     (sym (fed .before .before .before .before .class-at .ensures) ∙ fed .before .before .c .given .1)
     (fed .fed .ensures)
     _
     (c .before .before .is-over .ensures)
     (c .before .if1 .taken)
+    _
+    (c .stopped-after .ensures)
 
 add-i : tie.Need-add-i Inv-loop μ-loop
 add-i c =

@@ -9,18 +9,18 @@ use Rattle.md_lines.proofs.rows.score_line.Tie as tie
 through-requires : tie.Need-through-requires
 through-requires c κs =
     let met = c .before .before .before in
-    let entry = c .before .before .before .before .before .before .before .before .before .before in
+    let entry = met .before .before .before .before .before .before .before in
     (readable _ _ (sym (met .before .before .count-utf8 .ensures) ∙ met .count .given .1), c .before .if1 .taken, entry .pre)
 
 returns : tie.Need-returns
 returns c =
     let met = c .before .before .before .before .before .before in
-    c .before .before .through .ensures ∙ read _ _ _ _ _ (sym (met .before .before .count-utf8 .ensures) ∙ met .count .given .1)
+    read _ _ _ _ _ (sym (met .before .before .count-utf8 .ensures) ∙ met .count .given .1) _ (c .before .before .through .ensures)
 
 score-larger-requires : tie.Need-score-larger-requires
 score-larger-requires c κs =
     let met = c .before .before in
-    let entry = c .before .before .before .before .before .before .before .before .before in
+    let entry = met .before .before .before .before .before .before .before in
     (readable _ _ (sym (met .before .before .count-utf8 .ensures) ∙ met .count .given .1), entry .pre)
 
 returns-2 : tie.Need-returns-2
@@ -29,7 +29,7 @@ returns-2 c = unread _ _ _ _ _ (sym (c .before .before .before .count-utf8 .ensu
 returns-3 : tie.Need-returns-3
 returns-3 c =
     let met = c .before .before .before in
-    c .score-larger .ensures ∙ read _ _ _ _ _ (sym (met .before .before .count-utf8 .ensures) ∙ met .count .given .1)
+    read _ _ _ _ _ (sym (met .before .before .count-utf8 .ensures) ∙ met .count .given .1) _ (c .score-larger .ensures)
 
 pub score-line-spec : {M : Type 1} → statement M
 score-line-spec =
