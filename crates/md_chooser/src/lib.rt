@@ -1,6 +1,6 @@
 // The chooser (document 01, "The scan"): the more readable of two lent texts, and the verdict on them.
 ghost use mathlib.Core.Path.{_≡_};
-ghost use Rattle.md_chooser.specs.Inner.Cut.{Kept};
+ghost use Rattle.md_chooser.specs.Inner.Cut.{CutLength};
 ghost use Rattle.md_chooser.specs.Choose.{chosen, verdictOf};
 ghost use Rattle.md_chooser.specs.Choose.{judged as judgedBy};
 use base::Refusal;
@@ -23,11 +23,11 @@ pub fn choose<'a>(first: &'a [u32], second: &'a [u32], classes: &[u8], pairs: &[
     let judged = verdict(first, second, classes, pairs);
     match judged {
         Judged::First => {
-            let n = kept(first);
+            let n = cut_length(first);
             &first[..n]
         }
         Judged::Second => {
-            let n = kept(second);
+            let n = cut_length(second);
             &second[..n]
         }
         Judged::FirstRefused(_) => &first[..0],
@@ -63,8 +63,8 @@ fn judge(first: Scored, second: Scored) -> Judged
 }
 
 // How many code points stand before the trailing newlines.
-fn kept(text: &[u32]) -> usize
-    ensures { λ r. ⌜ Kept (now (text .entry)) r ⌝ }
+fn cut_length(text: &[u32]) -> usize
+    ensures { λ r. ⌜ CutLength (now (text .entry)) r ⌝ }
 {
     let mut n = text.len();
     while 0 < n {

@@ -7,20 +7,20 @@ use Rattle.md_chooser.proofs.choose.Statement.{statement}
 use Rattle.md_chooser.proofs.choose.Tie as tie
 
 slice-aggregate-result : tie.Need-slice-aggregate-result
-slice-aggregate-result c = sym (length-take-le _ _ (c .before .kept .ensures .within))
+slice-aggregate-result c = sym (length-take-le _ _ (c .before .cut-length .ensures .within))
 
 slice-aggregate-result-2 : tie.Need-slice-aggregate-result-2
-slice-aggregate-result-2 c = sym (length-take-le _ _ (c .before .kept2 .ensures .within))
+slice-aggregate-result-2 c = sym (length-take-le _ _ (c .before .cut-length2 .ensures .within))
 
 returns : tie.Need-returns
 returns c =
     let judged = c .before .before .before .before .verdict in
-    c .before .kept .ensures .is ∙ chosen-first _ _ _ _ _ (judged .ensures) (c .before .before .enum-told .given .1)
+    c .before .cut-length .ensures .is ∙ chosen-first _ _ _ _ _ (judged .ensures) (c .before .before .enum-told .given .1)
 
 returns-2 : tie.Need-returns-2
 returns-2 c =
     let judged = c .before .before .before .before .verdict in
-    c .before .kept2 .ensures .is ∙ chosen-second _ _ _ _ _ (judged .ensures) (c .before .before .enum-told2 .given .1)
+    c .before .cut-length2 .ensures .is ∙ chosen-second _ _ _ _ _ (judged .ensures) (c .before .before .enum-told2 .given .1)
 
 returns-3 : tie.Need-returns-3
 returns-3 c = chosen-refused _ _ _ _ _ (c .before .before .before .verdict .ensures) _ (c .before .enum-told3 .given .1)

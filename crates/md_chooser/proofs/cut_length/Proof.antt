@@ -6,8 +6,8 @@ use lib.ListN.{length, take}
 use lib.Seq.{take-length}
 use Rattle.md_chooser.specs.Cut.{cut}
 use Rattle.md_chooser.proofs.Laws.Cut.{cut-back, cut-found, cut-none}
-use Rattle.md_chooser.proofs.kept.Statement.{statement}
-use Rattle.md_chooser.proofs.kept.Tie as tie
+use Rattle.md_chooser.proofs.cut_length.Statement.{statement}
+use Rattle.md_chooser.proofs.cut_length.Tie as tie
 
 abbrev Inv-loop : tie.InvT-loop
 Inv-loop text n₀ n = (n ≤ length text) × (cut text ≡ cut (take n text))
@@ -34,8 +34,8 @@ returns-2 c =
       is = cut-found _ _ (c .before .before .loop-test .taken) (loop .inv .0) (c .if1 .taken) ∙ sym (loop .inv .1);
     }
 
-pub kept-spec : {M : Type 1} → statement M
-kept-spec =
+pub cut-length-spec : {M : Type 1} → statement M
+cut-length-spec =
     tie.close
     (tie.spec
     Inv-loop
