@@ -137,6 +137,12 @@ class House:
             for call in re.finditer(r"(?m)^pub (extern \"C\" )?fn (\w+)[\s\S]*?(?=\n\{)", text):
                 if call.group(2) in wanted if wanted is not None else call.group(1):
                     out.append(call.group(0))
+                    for module, names in re.findall(r"ghost use (\S+?)\.\{([^}]*)\};", text):
+                        where = antt.module_of(module)
+                        for name in (n.strip() for n in names.split(",")):
+                            many = sum(name in items for m, items in self.index.items() if m[1] == "specs" and not m[2].startswith("Inner"))
+                            if where and many > 1 and re.search(rf"(?<![\w.-]){re.escape(name)}(?![\w-])", call.group(0)):
+                                short_names[name] = f"`{name}` is that of {where[0]}, {where[2]}"
                     for module, short in re.findall(r"ghost use (\S+) as (\w+);", text):
                         if f"{short}." in call.group(0):
                             where = antt.module_of(module)

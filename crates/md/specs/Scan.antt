@@ -65,7 +65,7 @@ module _ (classes pairs text : List ℕ) where
 unfoldable pub scored : Detectors → ℕ → Bool → Scored
 scored s n early = Score (record { ratios = ratios s; sum = sumOf s; fed = n; stopped = early })
 
--- the index of the stop, `count text` where there is none
+-- the index of the stop, `total text` where there is none
 abbrev pub stopOf : List ℕ → List ℕ → List ℕ → Limit → ℕ
 stopOf classes pairs text limit = first (stops classes pairs text limit) (total text)
 
@@ -77,7 +77,7 @@ acceptedScore classes pairs text limit =
     (scored (stateAt classes pairs text (stopOf classes pairs text limit + 1)) (stopOf classes pairs text limit + 1) true)
     (scored (stateAt classes pairs text (total text)) (total text) false)
 
--- the first character in no record, `count text` where there is none; the newline always has a class
+-- the first character in no record, `total text` where there is none; the newline always has a class
 abbrev pub firstUnclassed : List ℕ → List ℕ → ℕ
 firstUnclassed classes text = first (unclassed classes text) (total text)
 
