@@ -16,7 +16,7 @@ ERROR = re.compile(r"(?m)^(\S+?):(\d+):(\d+): error: (.*)$")
 NAMED = re.compile(r"`([^`]+)`: ")
 ALONE_TRIED = re.compile(r"(?m)^fn [^:\s]+::(\S+): no proof: .*?; `search` does not close (.*)$")
 FOLLOWS = "was not admitted (it has holes or undetermined implicits, or was rejected)"
-SHAPE = ("has no `Tie`", "has no `Need-", "expected type `tie.Need", "is not in scope", "unknown name", "not found in module")
+SHAPE = ("has no `Tie`", "has no `Need-", "expected type `tie.Need", "is not in scope", "has no field", "unknown name", "not found in module")
 
 
 def place_of(path, label):

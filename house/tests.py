@@ -50,13 +50,35 @@ def definition_without_sentence(tree):
     changed(tree / "house/sentences.txt", "= ratio/Demand\n", "")
 
 
-def edit_not_listed(tree):
-    (tree / "crates/base/must-fail/strange.edit").write_text("A strange program.\nfile: src/lib.rt\nold: 1\nnew: 2\n", encoding="utf-8")
+def program_not_listed(tree):
+    edit = tree / "crates/base/must-fail/round_2.edit"
+    edit.write_text("wrong: strange: A strange program.\nrefused: pick at returns\nfile: src/lib.rt\nold:     if b { x } else { y }\nnew:     if b { x } else { x }\n", encoding="utf-8")
 
 
-def edits_kind_changed(tree):
-    edit = sorted((tree / "crates/base/must-fail").glob("*.edit"))[0]
-    edit.write_text(edit.read_text(encoding="utf-8").replace("file: src/", "file: specs/"), encoding="utf-8")
+def first_round(tree):
+    return tree / "crates/base/must-fail/round_1.edit"
+
+
+def replaced_text_gone(tree):
+    changed(first_round(tree), "old:     if b { x } else { y }", "old:     if b { x } else { z }")
+
+
+def need_unknown(tree):
+    changed(first_round(tree), "refused: is_set at returns", "refused: is_set at returns-9")
+
+
+def refused_elsewhere(tree):
+    changed(first_round(tree), "refused: is_set at returns", "refused: holds at loop-again")
+
+
+def function_twice_in_a_round(tree):
+    path = first_round(tree)
+    path.write_text(path.read_text(encoding="utf-8") + "\nwrong: again: Again.\nrefused: is_set at returns\nfile: src/lib.rt\nold: flags / bit\nnew: bit / flags\n", encoding="utf-8")
+
+
+def definition_in_a_round(tree):
+    path = first_round(tree)
+    path.write_text(path.read_text(encoding="utf-8") + "\nwrong: again: Again.\nrefused: is_set at returns\nfile: specs/First.antt\nold: first f n = seek f n 0\nnew: first f n = seek f n 1\n", encoding="utf-8")
 
 
 FAULTS = [
@@ -67,8 +89,12 @@ FAULTS = [
     ("definitions.py", definition_edited),
     ("definitions.py", sentence_without_definition),
     ("definitions.py", definition_without_sentence),
-    ("promises.py", edit_not_listed),
-    ("promises.py", edits_kind_changed),
+    ("promises.py", program_not_listed),
+    ("promises.py", replaced_text_gone),
+    ("promises.py", need_unknown),
+    ("promises.py", refused_elsewhere),
+    ("promises.py", function_twice_in_a_round),
+    ("promises.py", definition_in_a_round),
 ]
 
 
