@@ -1,4 +1,6 @@
-// The proved library, called by the C ABI, with every lent slice between canaries.
+// The proved library, called by the C ABI, with every lent slice between canaries or against a wall (walls.rs).
+pub use crate::walls::Guarded;
+
 #[repr(C)]
 #[derive(Clone, Copy, Debug, Default, PartialEq)]
 pub struct HostRead {
@@ -117,43 +119,6 @@ unsafe extern "C" {
         pairs: *const u8,
         pairs_n: usize,
     ) -> HostVerdict;
-}
-
-const MARGIN: usize = 32;
-
-// A copy of a list between two margins of canaries.
-pub struct Guarded<T> {
-    all: Vec<T>,
-    was: Vec<T>,
-}
-
-impl<T: Copy + PartialEq> Guarded<T> {
-    pub fn new(list: &[T], canary: T) -> Guarded<T> {
-        let mut all = vec![canary; MARGIN];
-        all.extend_from_slice(list);
-        all.extend(std::iter::repeat_n(canary, MARGIN));
-        Guarded { was: all.clone(), all }
-    }
-
-    pub fn list(&self) -> &[T] {
-        &self.all[MARGIN..self.all.len() - MARGIN]
-    }
-
-    pub fn list_mut(&mut self) -> &mut [T] {
-        let end = self.all.len() - MARGIN;
-        &mut self.all[MARGIN..end]
-    }
-
-    // Whether list and margins are as they were.
-    pub fn whole(&self) -> bool {
-        self.all == self.was
-    }
-
-    // Whether the margins are as they were, and the list is this one.
-    pub fn holds(&self, list: &[T]) -> bool {
-        let end = self.all.len() - MARGIN;
-        self.all[..MARGIN] == self.was[..MARGIN] && self.all[end..] == self.was[end..] && self.list() == list
-    }
 }
 
 pub const BYTE: u8 = 0xA5;
