@@ -56,6 +56,15 @@ pub struct HostVerdict {
     pub place: u32,
 }
 
+#[repr(C)]
+#[derive(Clone, Copy, Debug, Default, PartialEq)]
+pub struct HostChosen {
+    pub taken: u32,
+    pub length: u32,
+    pub number: u32,
+    pub place: u32,
+}
+
 // A struct of more than 16 bytes comes back through the first pointer, which is also returned.
 unsafe extern "C" {
     fn drasumira_check_classes(classes: *const u8, n: usize) -> HostRead;
@@ -119,6 +128,16 @@ unsafe extern "C" {
         pairs: *const u8,
         pairs_n: usize,
     ) -> HostVerdict;
+    fn drasumira_choose(
+        first: *const u32,
+        first_n: usize,
+        second: *const u32,
+        second_n: usize,
+        classes: *const u8,
+        classes_n: usize,
+        pairs: *const u8,
+        pairs_n: usize,
+    ) -> HostChosen;
 }
 
 pub const BYTE: u8 = 0xA5;
@@ -193,4 +212,9 @@ pub fn score_lines(bytes: &[u8], threshold: f32, lent: &Lent, out: &mut [u32]) -
 pub fn verdict(first: &[u32], second: &[u32], lent: &Lent) -> HostVerdict {
     let (c, p) = (lent.classes.list(), lent.pairs.list());
     unsafe { drasumira_verdict(first.as_ptr(), first.len(), second.as_ptr(), second.len(), c.as_ptr(), c.len(), p.as_ptr(), p.len()) }
+}
+
+pub fn choose(first: &[u32], second: &[u32], lent: &Lent) -> HostChosen {
+    let (c, p) = (lent.classes.list(), lent.pairs.list());
+    unsafe { drasumira_choose(first.as_ptr(), first.len(), second.as_ptr(), second.len(), c.as_ptr(), c.len(), p.as_ptr(), p.len()) }
 }

@@ -14,7 +14,7 @@ mod texts;
 mod walls;
 
 use aimed::{AIMS, Shelves};
-use library::{Guarded, HostScore, HostVerdict, Lent, text_of};
+use library::{Guarded, HostChosen, HostScore, HostVerdict, Lent, text_of};
 use oracle::open::LENT;
 use random::Random;
 use std::panic::{AssertUnwindSafe, catch_unwind, resume_unwind};
@@ -260,6 +260,13 @@ impl Run {
         self.refused += (expected.number != 0) as u64;
         if told != expected || !a.whole() || !b.whole() || !lent.whole() {
             self.fail(|| format!("verdict on {} and {}\nlibrary  {told:?}\nexpected {expected:?}", hex(first), hex(second)));
+        }
+        let taken: &[u32] = [&[], first, second][expected.taken as usize];
+        let length = (taken.len() - taken.iter().rev().take_while(|p| **p == 0x0A).count()) as u32;
+        let expected = HostChosen { taken: expected.taken, length, number: expected.number, place: expected.place };
+        let told = library::choose(a.list(), b.list(), &lent);
+        if told != expected || !a.whole() || !b.whole() || !lent.whole() {
+            self.fail(|| format!("choice of {} and {}\nlibrary  {told:?}\nexpected {expected:?}", hex(first), hex(second)));
         }
     }
 

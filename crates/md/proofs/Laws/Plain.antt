@@ -31,24 +31,24 @@ use Rattle.md.proofs.Laws.Accepted.{scored-faultless}
 use Rattle.md.specs.Inner.Plain.{PlainScore, PlainAnswer}
 
 -- what holds of the answer after k characters, whatever they were, holds of every answer
-abbrev Always : (Score → Type 0) → Type 0
+abbrev pub Always : (Score → Type 0) → Type 0
 Always P = (k : ℕ) (t : Detectors) → Within k t → k ≤ LARGEST → (fed : ℕ) (early : Bool) (s : Score) → scored t fed early ≡ Told s → P s
 
 same : (P : Score → Type 0) (s r : Score) → Told r ≡ Told s → P r → P s
 same P s r e c = let z : r ≡ s = cc in rw z at c
 
-always-plain : Always PlainScore
+pub always-plain : Always PlainScore
 unfolding scored sumOf
 always-plain k t w h fed early s e =
     let p = fractions-proper k t w h in
     same PlainScore s _ e (record { ratios = ratios-plain (fractions t) p; sum = sum-plain (fractions t) p })
 
-always-at-most : Always (λ s. AtMost (s .ratios))
+pub always-at-most : Always (λ s. AtMost (s .ratios))
 unfolding scored
 always-at-most k t w h fed early s e = same (λ s. AtMost (s .ratios)) s _ e (ratios-at-most k t w h)
 
 module _ (text : List ℕ) (limit : Limit) (classes pairs : List ℕ) (short : length text ≤ LONGEST-TEXT) (P : Score → Type 0) (always : Always P) where
-  accepted-always : (s : Score) → acceptedScore classes pairs text limit ≡ Told s → P s
+  pub accepted-always : (s : Score) → acceptedScore classes pairs text limit ≡ Told s → P s
   unfolding acceptedScore
   accepted-always s e =
       let k = stopOf classes pairs text limit in
