@@ -8,7 +8,6 @@ use mathlib.Core.Path.{_≡_, refl, sym, _∙_}
 use mathlib.Core.List.{List}
 use lib.Ieee.{ofBits, fits}
 use Rattle.ratio.specs.Finite.{Finite}
-use Rattle.md_eight.proofs.Loops.Detectors.{AtMost}
 use Rattle.md.specs.declared.Limit.the-variants.{Threshold, Never}
 use Rattle.md.specs.declared.Score.{Score}
 use Rattle.md.specs.declared.Scored.the-variants.{Score as Told}
@@ -20,7 +19,7 @@ use Rattle.md.proofs.Laws.Scan.{unless-allowed, unless-score}
 use Rattle.md.proofs.Laws.MessRatio.{default-finite, default-causes, default-same}
 use Rattle.md.proofs.Laws.Accepted.{Faultless, faultless-free, free-faultless, faultless-scored, Accepted, scored-faultless}
 use Rattle.md.proofs.Laws.DemandThree.{demand-three}
-use Rattle.md.proofs.Laws.Plain.{always-plain, always-at-most, accepted-always, ratio-plain, ratio-at-most}
+use Rattle.md.proofs.Laws.Plain.{Bounded, always-plain, always-at-most, accepted-always, ratio-plain, ratio-at-most}
 
 -- 0.2 is a finite f32
 pub default-threshold : Finite DEFAULT-THRESHOLD
@@ -46,7 +45,7 @@ module _ (text classes pairs : List ℕ) where
     pub default-plain : PlainScore s
     default-plain = ratio-plain text DEFAULT-THRESHOLD classes pairs s (default-same text classes pairs ∙ e)
 
-    pub default-at-most : AtMost (s .ratios)
+    pub default-at-most : Bounded s
     default-at-most = ratio-at-most text DEFAULT-THRESHOLD classes pairs s (default-same text classes pairs ∙ e)
 
   -- ---- a text scored whole
@@ -68,5 +67,5 @@ module _ (text classes pairs : List ℕ) where
     pub whole-plain : PlainScore s
     whole-plain = accepted-always text Never classes pairs (whole-faultless .faultless .short) PlainScore always-plain s (whole-faultless .is)
 
-    pub whole-at-most : AtMost (s .ratios)
-    whole-at-most = accepted-always text Never classes pairs (whole-faultless .faultless .short) (λ t. AtMost (t .ratios)) always-at-most s (whole-faultless .is)
+    pub whole-at-most : Bounded s
+    whole-at-most = accepted-always text Never classes pairs (whole-faultless .faultless .short) Bounded always-at-most s (whole-faultless .is)
