@@ -1,13 +1,13 @@
 // The ranking of languages, compared as the scores are: number, place, count, every language and every bit of a score, the work area, the
 // list of matches and every lent byte. What is accepted is answered by the oracle, with the crate's own tables or with lent ones; what is
 // refused, which the oracle never does, by coherence/causes.rs.
+mod aimed;
 mod causes;
 pub mod host;
 mod languages;
 mod texts;
 
 use crate::library::{BYTE, Guarded, WORD};
-use crate::random::Random;
 use crate::tables::{self, PAIR_BYTES};
 use crate::texts::Alphabet;
 use crate::{Run, chars, hex, smallest};
@@ -155,6 +155,36 @@ fn called(q: &Question, work: &[u32], matches: &[CoherenceMatch]) -> Outcome {
     Outcome { told, work: work.list().to_vec(), matches: matches.list().to_vec(), untouched }
 }
 
+// The smallest text found that the library and 01 still differ on, with both answers.
+fn difference(q: &Question, tables: &Tables, work: &[u32], matches: &[CoherenceMatch]) -> String {
+    let of = |text: &[u32]| {
+        let q = Question { text, ..*q };
+        (called(&q, work, matches), expected(&q, work, matches))
+    };
+    let tries = std::cell::Cell::new(0);
+    let small = smallest(q.text, |text| {
+        tries.set(tries.get() + 1);
+        tries.get() <= MOST_TRIES && {
+            let (told, should) = of(text);
+            told != should
+        }
+    });
+    let (told, should) = of(&small);
+    format!(
+        "threshold {:?}, small {}, included {:?}, {} tables of {} class and {} language records, text of {}: {}\nlibrary  {}\nexpected {}",
+        q.threshold,
+        q.small,
+        q.included,
+        if tables.oracle.is_none() { "the crate's or bad" } else { "lent" },
+        tables.classes.list().len() / 24,
+        tables.records(),
+        small.len(),
+        hex(&small[..small.len().min(400)]),
+        told.shown(),
+        should.shown()
+    )
+}
+
 impl Run {
     // One call, accepted or refused, with a work area and a list of the given lengths that hold anything.
     fn ranked(&mut self, case: &Case, tables: &Tables, work: usize, matches: usize) {
@@ -170,35 +200,10 @@ impl Run {
         self.coherence.matches += should.told.count as u64;
         self.refused += (should.told.number != 0) as u64;
         if told != should {
-            let of = |text: &[u32]| {
-                let q = Question { text, ..question };
-                (called(&q, &work, &matches), expected(&q, &work, &matches))
-            };
-            let tries = std::cell::Cell::new(0);
-            let small = smallest(&case.text, |text| {
-                tries.set(tries.get() + 1);
-                tries.get() <= MOST_TRIES && {
-                    let (told, should) = of(text);
-                    told != should
-                }
-            });
-            let (told, should) = of(&small);
-            self.fail(&format!(
-                "threshold {:?}, small {}, included {:?}, {} tables of {} class and {} language records, text of {}: {}\nlibrary  {}\nexpected {}",
-                case.threshold,
-                case.small,
-                case.included,
-                if tables.oracle.is_none() { "the crate's or bad" } else { "lent" },
-                tables.classes.list().len() / 24,
-                tables.records(),
-                small.len(),
-                hex(&small[..small.len().min(400)]),
-                told.shown(),
-                should.shown()
-            ));
+            self.fail(|| difference(&question, tables, &work, &matches));
         }
         if !tables.whole() {
-            self.fail(&format!("a table was changed by text {}", hex(&case.text[..case.text.len().min(100)])));
+            self.fail(|| format!("a table was changed by text {}", hex(&case.text[..case.text.len().min(100)])));
         }
     }
 
@@ -284,10 +289,9 @@ impl Run {
             self.refused += should.is_err() as u64;
             if told != should {
                 let shown = hex(&case.text[..case.text.len().min(400)]);
-                self.fail(&format!(
-                    "threshold {threshold:?}, included {:?}, text {shown}\npackage  {told:?}\nexpected {should:?}",
-                    case.included
-                ));
+                self.fail(|| {
+                    format!("threshold {threshold:?}, included {:?}, text {shown}\npackage  {told:?}\nexpected {should:?}", case.included)
+                });
             }
         }
     }
@@ -510,9 +514,26 @@ impl Run {
         }
     }
 
-    // All of it. It draws from the seed anew, so that it can be run without what comes before.
+    // Small tables at each limit, with `small` at and beside a layer's letters, thresholds at a score, and included numbers of every kind.
+    fn aimed_rankings(&mut self, times: usize) {
+        for _ in 0..times {
+            let world = aimed::World::new(&mut self.random);
+            let tables = Tables::lent(&world.classes, &world.pairs, &world.languages);
+            tables.lend();
+            let included = aimed::included(&mut self.random, &tables.numbers);
+            let threshold =
+                *self.random.pick(&[None, None, Some(0.0), Some(-1.0), Some(0.8), Some(0.8f32.next_up()), Some(0.9), Some(0.2)]);
+            let small = if self.random.below(3) == 0 { self.small_of_lent(&world.text, &tables) } else { self.random.below(2) as u32 };
+            let mut case = Case { text: world.text, threshold, small, included };
+            self.accepted_ranking(&case, &tables);
+            if self.random.below(2) == 0 {
+                self.at_a_score(&mut case, &tables);
+            }
+        }
+    }
+
+    // All of it, what is aimed first.
     pub fn coherence(&mut self, classes: &[u8], pairs: &[u8], languages: &[u8]) {
-        self.random = Random::new(self.seed);
         let (records, own) = (tables::records(classes), languages::records(languages));
         let (letters, alphabet) = (Letters::new(&records), Alphabet::new(&records));
         let alphabets: Vec<Vec<u32>> = own.iter().map(|record| record.letters.clone()).collect();
@@ -520,26 +541,33 @@ impl Run {
         let mut real = Tables::new(classes, pairs, languages);
         real.numbers = lent.numbers.clone();
 
-        real.lend();
-        self.phase("rankings with the crate's tables");
-        self.crates_tables(self.times(1_200, 24_000), &real, &letters, &alphabet, &alphabets);
-        self.phase("rankings by the Rust package");
-        self.by_the_package(self.times(150, 3_000), &real, &letters, &alphabets);
-        self.phase("rankings of long texts");
-        self.long_texts(self.times(8, 200), &real, &alphabet, &letters, &alphabets);
-        lent.lend();
-        self.phase("rankings with the crate's tables lent");
-        self.crates_tables_lent(self.times(600, 16_000), &lent, &letters, &alphabet, &alphabets);
-        self.phase("rankings with lent tables");
-        self.lent_to_both(self.times(60, 2_000), 24);
-        self.phase("rankings at the sufficient score");
-        self.sufficient_scores(self.times(400, 10_000));
-        self.phase("rankings of many layers");
-        self.many_layers(self.times(6, 200));
-        self.phase("causes of coherence");
-        self.causes_of_coherence(self.times(4, 80), classes, pairs, &own);
-        self.phase("rankings with damaged tables");
-        self.damaged_tables(self.times(200, 5_000));
-        Tables::new(&[], &[], &[]).lend();
+        let (real, lent, letters, alphabet, alphabets) = (&real, &lent, &letters, &alphabet, &alphabets);
+        self.during("rankings at limits", |run| run.aimed_rankings(run.times(3_000, 60_000)));
+        self.during("rankings at the sufficient score", |run| run.sufficient_scores(run.times(400, 10_000)));
+        self.during("causes of coherence", |run| run.causes_of_coherence(run.times(4, 80), classes, pairs, &own));
+        self.during("rankings with the crate's tables", |run| {
+            run.crates_tables(run.times(1_200, 24_000), real, letters, alphabet, alphabets)
+        });
+        self.during("rankings by the Rust package", |run| run.by_the_package(run.times(150, 3_000), real, letters, alphabets));
+        self.during("rankings of long texts", |run| run.long_texts(run.times(8, 200), real, alphabet, letters, alphabets));
+        self.during("rankings with the crate's tables lent", |run| {
+            lent.lend();
+            run.crates_tables_lent(run.times(600, 16_000), lent, letters, alphabet, alphabets);
+        });
+        self.during("rankings with lent tables", |run| run.lent_to_both(run.times(60, 2_000), 24));
+        self.during("rankings of many layers", |run| run.many_layers(run.times(6, 200)));
+        self.during("rankings with damaged tables", |run| run.damaged_tables(run.times(200, 5_000)));
+    }
+
+    // Scores of texts in the languages of the table: letters by their popularity, in words, in either case.
+    pub fn in_languages(&mut self, times: usize, records: &[tables::Record], languages: &[u8], lent: &crate::library::Lent) {
+        let letters = Letters::new(records);
+        let alphabets: Vec<Vec<u32>> = languages::records(languages).into_iter().map(|record| record.letters).collect();
+        for _ in 0..times {
+            let n = crate::texts::length(&mut self.random);
+            let text = letters.text(&mut self.random, &alphabets, n);
+            let threshold = crate::texts::threshold(&mut self.random);
+            self.accepted(&text, threshold, lent);
+        }
     }
 }

@@ -1,4 +1,6 @@
-// The proved library, called by the C ABI, with every lent slice between canaries.
+// The proved library, called by the C ABI, with every lent slice between canaries or against a wall (walls.rs).
+pub use crate::walls::Guarded;
+
 #[repr(C)]
 #[derive(Clone, Copy, Debug, Default, PartialEq)]
 pub struct HostRead {
@@ -50,6 +52,15 @@ impl HostScore {
 pub struct HostVerdict {
     pub taken: u32,
     pub refused: u32,
+    pub number: u32,
+    pub place: u32,
+}
+
+#[repr(C)]
+#[derive(Clone, Copy, Debug, Default, PartialEq)]
+pub struct HostChosen {
+    pub taken: u32,
+    pub length: u32,
     pub number: u32,
     pub place: u32,
 }
@@ -117,43 +128,16 @@ unsafe extern "C" {
         pairs: *const u8,
         pairs_n: usize,
     ) -> HostVerdict;
-}
-
-const MARGIN: usize = 32;
-
-// A copy of a list between two margins of canaries.
-pub struct Guarded<T> {
-    all: Vec<T>,
-    was: Vec<T>,
-}
-
-impl<T: Copy + PartialEq> Guarded<T> {
-    pub fn new(list: &[T], canary: T) -> Guarded<T> {
-        let mut all = vec![canary; MARGIN];
-        all.extend_from_slice(list);
-        all.extend(std::iter::repeat_n(canary, MARGIN));
-        Guarded { was: all.clone(), all }
-    }
-
-    pub fn list(&self) -> &[T] {
-        &self.all[MARGIN..self.all.len() - MARGIN]
-    }
-
-    pub fn list_mut(&mut self) -> &mut [T] {
-        let end = self.all.len() - MARGIN;
-        &mut self.all[MARGIN..end]
-    }
-
-    // Whether list and margins are as they were.
-    pub fn whole(&self) -> bool {
-        self.all == self.was
-    }
-
-    // Whether the margins are as they were, and the list is this one.
-    pub fn holds(&self, list: &[T]) -> bool {
-        let end = self.all.len() - MARGIN;
-        self.all[..MARGIN] == self.was[..MARGIN] && self.all[end..] == self.was[end..] && self.list() == list
-    }
+    fn drasumira_choose(
+        first: *const u32,
+        first_n: usize,
+        second: *const u32,
+        second_n: usize,
+        classes: *const u8,
+        classes_n: usize,
+        pairs: *const u8,
+        pairs_n: usize,
+    ) -> HostChosen;
 }
 
 pub const BYTE: u8 = 0xA5;
@@ -228,4 +212,9 @@ pub fn score_lines(bytes: &[u8], threshold: f32, lent: &Lent, out: &mut [u32]) -
 pub fn verdict(first: &[u32], second: &[u32], lent: &Lent) -> HostVerdict {
     let (c, p) = (lent.classes.list(), lent.pairs.list());
     unsafe { drasumira_verdict(first.as_ptr(), first.len(), second.as_ptr(), second.len(), c.as_ptr(), c.len(), p.as_ptr(), p.len()) }
+}
+
+pub fn choose(first: &[u32], second: &[u32], lent: &Lent) -> HostChosen {
+    let (c, p) = (lent.classes.list(), lent.pairs.list());
+    unsafe { drasumira_choose(first.as_ptr(), first.len(), second.as_ptr(), second.len(), c.as_ptr(), c.len(), p.as_ptr(), p.len()) }
 }

@@ -63,7 +63,7 @@ impl Run {
                     self.refused += (expected.number != 0) as u64;
                     row.copy_from_slice(&expected.words());
                     if library::score_utf8(line, Some(threshold), &lent).words() != row {
-                        self.fail(&format!("threshold {threshold:?}, drasumira_score_utf8 on the line of {}", shown(line)));
+                        self.fail(|| format!("threshold {threshold:?}, drasumira_score_utf8 on the line of {}", shown(line)));
                     }
                 }
                 HostRead { number: 0, place: 0, count: lines.len() as u32 }
@@ -72,7 +72,7 @@ impl Run {
         self.refused += (expected.number != 0) as u64;
         if told != expected || !out.holds(&after) || !given.whole() || !lent.whole() {
             let at = out.list().iter().zip(&after).position(|(a, b)| a != b);
-            self.fail(&format!(
+            self.fail(|| format!(
                 "threshold {threshold:?}, room {room}, a burst of {}\nlibrary  {told:?}\nexpected {expected:?}\nfirst number that differs: {at:?}",
                 shown(bytes)
             ));
@@ -147,7 +147,7 @@ impl Run {
             let told = drasumira::score_lines(&bytes, threshold, &lent).expect("a burst that is not refused");
             let expected = lines(&bytes).into_iter().map(|l| expected_line(l, threshold.unwrap_or(DEFAULT_THRESHOLD), &classes, pairs));
             if !told.into_iter().map(words).eq(expected.map(|score| score.words())) {
-                self.fail(&format!("threshold {threshold:?}, the package's score_lines on {}", shown(&bytes)));
+                self.fail(|| format!("threshold {threshold:?}, the package's score_lines on {}", shown(&bytes)));
             }
             self.choice(alphabet, at, &classes, pairs, &lent);
         }
@@ -175,7 +175,7 @@ impl Run {
         let (a, b) = (chars(first), chars(second));
         let told = drasumira::choose(&a, &b, lent);
         if !told.iter().map(|c| *c as u32).eq(taken[..cut].iter().copied()) {
-            self.fail(&format!("the package's choice of {} and {}", hex(first), hex(second)));
+            self.fail(|| format!("the package's choice of {} and {}", hex(first), hex(second)));
         }
     }
 }

@@ -1,18 +1,23 @@
-// oracle/differential/run quick|full [SEED]: the oracle and the proved library in one process, on the same texts, thresholds and tables.
+// oracle/differential/run quick|full [SEED [scoring|coherence]]: the oracle and the proved library in one process, on the same texts, thresholds and tables.
 // Compared: every bit of every ratio and of the sum, fed, stopped, number, place, and every lent byte. Where 01 refuses, what is expected
 // comes from causes.rs, since the oracle refuses nothing. The first difference is printed as the smallest text found, with both answers,
-// and ends the run with status 1.
+// and ends the run with status 1. `survey` is for wrong programs: it tells the first two phases that find a difference.
+mod aimed;
 mod causes;
 mod coherence;
+mod edges;
 mod library;
 mod lines;
 mod random;
 mod tables;
 mod texts;
+mod walls;
 
-use library::{Guarded, HostScore, HostVerdict, Lent, text_of};
+use aimed::{AIMS, Shelves};
+use library::{Guarded, HostChosen, HostScore, HostVerdict, Lent, text_of};
 use oracle::open::LENT;
 use random::Random;
+use std::panic::{AssertUnwindSafe, catch_unwind, resume_unwind};
 use std::time::Instant;
 use tables::{BUILTIN_END, PAIR_BYTES, Record};
 use texts::{Alphabet, BOUNDARIES};
@@ -38,8 +43,13 @@ struct Run {
     coherence: coherence::Tally,
     random: Random,
     phase: &'static str,
-    began: (Instant, u64),
+    began: u64,   // the cases before the phase
+    survey: bool, // whether a difference ends its phase only
+    found: usize, // the phases that one was found in
 }
+
+// What a survey throws.
+struct Difference;
 
 fn chars(text: &[u32]) -> Vec<char> {
     text.iter().map(|p| char::from_u32(*p).expect("a scalar value")).collect()
@@ -90,34 +100,57 @@ impl Run {
         if self.full { full } else { quick }
     }
 
-    fn phase(&mut self, name: &'static str) {
-        if !self.phase.is_empty() {
-            eprintln!("{}: {} cases, {:.1} s", self.phase, self.cases - self.began.1, self.began.0.elapsed().as_secs_f32());
+    // One phase. It draws from the seed and its name alone, so that it meets the same cases whatever is run before it.
+    fn during(&mut self, name: &'static str, work: impl FnOnce(&mut Run)) {
+        let (began, before) = (Instant::now(), self.cases);
+        self.random = Random::new(name.bytes().fold(self.seed, |sum, byte| sum.wrapping_mul(0x100_0000_01B3) ^ byte as u64));
+        (self.phase, self.began) = (name, before);
+        LENT.with_borrow_mut(|lent| *lent = oracle::open::Lent::default());
+        match self.survey {
+            false => work(self),
+            true => self.surveyed(work),
         }
-        (self.phase, self.began) = (name, (Instant::now(), self.cases));
+        eprintln!("{name}: {} cases, {:.1} s", self.cases - before, began.elapsed().as_secs_f32());
+    }
+
+    // A phase of a survey: a difference ends it, and is told by phase and case; once two phases found one the survey ends.
+    fn surveyed(&mut self, work: impl FnOnce(&mut Run)) {
+        let Err(thrown) = catch_unwind(AssertUnwindSafe(|| work(self))) else { return };
+        let what = if thrown.is::<Difference>() { "found" } else { "panicked" };
+        println!("{what}: {}: {}", self.phase, self.cases - self.began);
+        self.found += 1;
+        if self.found == 2 {
+            std::process::exit(1);
+        }
     }
 
     fn counted(&mut self) {
         self.cases += 1;
+        *walls::NOW.lock().expect("held by none") = (self.phase, self.cases - self.began);
         if self.cases.is_multiple_of(PROGRESS_EVERY) {
             eprintln!("{}: {} cases so far", self.phase, self.cases);
         }
     }
 
-    fn fail(&self, what: &str) -> ! {
-        println!("DIFFERENCE in {}, case {}, seed {}: {what}", self.phase, self.cases, self.seed);
+    // What is told of a difference is worked out only where it is printed.
+    fn fail(&self, what: impl FnOnce() -> String) -> ! {
+        if self.survey {
+            resume_unwind(Box::new(Difference));
+        }
+        println!("DIFFERENCE in {}, case {}, seed {}: {}", self.phase, self.cases - self.began, self.seed, what());
         std::process::exit(1)
     }
 
     fn ended(&self, started: Instant) {
         println!(
-            "{} cases, 0 differences ({} refused as 01 says, {} stopped early; {}; seed {}, {:.0} s)",
+            "{} cases, 0 differences ({} refused as 01 says, {} stopped early; {}; seed {}, {:.0} s), over {}",
             self.cases,
             self.refused,
             self.stopped,
             self.coherence,
             self.seed,
-            started.elapsed().as_secs_f32()
+            started.elapsed().as_secs_f32(),
+            env!("LIBRARY")
         );
     }
 
@@ -128,16 +161,14 @@ impl Run {
         let (told, expected) = (library::score(given.list(), threshold, lent), oracle_score(text, threshold));
         self.stopped += expected.stopped as u64;
         if told != expected {
-            let small = smallest(text, |t| library::score(t, threshold, lent) != oracle_score(t, threshold));
-            self.fail(&format!(
-                "threshold {threshold:?}, text {}\nlibrary {}\noracle  {}",
-                hex(&small),
-                library::score(&small, threshold, lent).shown(),
-                oracle_score(&small, threshold).shown()
-            ));
+            self.fail(|| {
+                let small = smallest(text, |t| library::score(t, threshold, lent) != oracle_score(t, threshold));
+                let (told, expected) = (library::score(&small, threshold, lent), oracle_score(&small, threshold));
+                format!("threshold {threshold:?}, text {}\nlibrary {}\noracle  {}", hex(&small), told.shown(), expected.shown())
+            });
         }
         if !given.whole() || (self.cases.is_multiple_of(TABLES_LOOKED_AT_EVERY) && !lent.whole()) {
-            self.fail(&format!("a lent slice was changed by text {}", hex(text)));
+            self.fail(|| format!("a lent slice was changed by text {}", hex(text)));
         }
     }
 
@@ -148,18 +179,20 @@ impl Run {
         let (told, expected) = (library::score(given.list(), threshold, &lent), expected_score(text, threshold, classes, pairs));
         self.refused += (expected.number != 0) as u64;
         if told != expected {
-            let small = smallest(text, |t| library::score(t, threshold, &lent) != expected_score(t, threshold, classes, pairs));
-            self.fail(&format!(
-                "threshold {threshold:?}, {} bytes of classes, {} of pairs, text {}\nlibrary  {}\nexpected {}",
-                classes.len(),
-                pairs.len(),
-                hex(&small[..small.len().min(100)]),
-                library::score(&small, threshold, &lent).shown(),
-                expected_score(&small, threshold, classes, pairs).shown()
-            ));
+            self.fail(|| {
+                let small = smallest(text, |t| library::score(t, threshold, &lent) != expected_score(t, threshold, classes, pairs));
+                format!(
+                    "threshold {threshold:?}, {} bytes of classes, {} of pairs, text {}\nlibrary  {}\nexpected {}",
+                    classes.len(),
+                    pairs.len(),
+                    hex(&small[..small.len().min(100)]),
+                    library::score(&small, threshold, &lent).shown(),
+                    expected_score(&small, threshold, classes, pairs).shown()
+                )
+            });
         }
         if !given.whole() || !lent.whole() {
-            self.fail(&format!("a lent slice was changed by text {}", hex(&text[..text.len().min(100)])));
+            self.fail(|| format!("a lent slice was changed by text {}", hex(&text[..text.len().min(100)])));
         }
     }
 
@@ -169,7 +202,7 @@ impl Run {
         let (told, expected) = (library::check_classes(given.list()), causes::checked(classes));
         self.refused += (expected.number != 0) as u64;
         if told != expected || !given.whole() {
-            self.fail(&format!("class table of {} bytes\nlibrary  {told:?}\nexpected {expected:?}", classes.len()));
+            self.fail(|| format!("class table of {} bytes\nlibrary  {told:?}\nexpected {expected:?}", classes.len()));
         }
     }
 
@@ -182,12 +215,14 @@ impl Run {
         self.refused += (expected.number != 0) as u64;
         if told != expected || !out.holds(&after) || !given.whole() {
             let shown: Vec<String> = bytes.iter().take(100).map(|b| format!("{b:02X}")).collect();
-            self.fail(&format!(
-                "{} bytes, room {room}: {}\nlibrary  {told:?}\nexpected {expected:?}\nlent bytes as expected: {}",
-                bytes.len(),
-                shown.join(" "),
-                out.holds(&after) && given.whole()
-            ));
+            self.fail(|| {
+                format!(
+                    "{} bytes, room {room}: {}\nlibrary  {told:?}\nexpected {expected:?}\nlent bytes as expected: {}",
+                    bytes.len(),
+                    shown.join(" "),
+                    out.holds(&after) && given.whole()
+                )
+            });
         }
     }
 
@@ -203,13 +238,15 @@ impl Run {
         self.refused += (expected.number != 0) as u64;
         if told != expected || !given.whole() || !lent.whole() {
             let shown: Vec<String> = bytes.iter().take(100).map(|b| format!("{b:02X}")).collect();
-            self.fail(&format!(
-                "threshold {threshold:?}, {} bytes: {}\nlibrary  {}\nexpected {}",
-                bytes.len(),
-                shown.join(" "),
-                told.shown(),
-                expected.shown()
-            ));
+            self.fail(|| {
+                format!(
+                    "threshold {threshold:?}, {} bytes: {}\nlibrary  {}\nexpected {}",
+                    bytes.len(),
+                    shown.join(" "),
+                    told.shown(),
+                    expected.shown()
+                )
+            });
         }
     }
 
@@ -222,7 +259,14 @@ impl Run {
             .unwrap_or_else(|| HostVerdict { taken: if whole(second) < whole(first) { 2 } else { 1 }, ..HostVerdict::default() });
         self.refused += (expected.number != 0) as u64;
         if told != expected || !a.whole() || !b.whole() || !lent.whole() {
-            self.fail(&format!("verdict on {} and {}\nlibrary  {told:?}\nexpected {expected:?}", hex(first), hex(second)));
+            self.fail(|| format!("verdict on {} and {}\nlibrary  {told:?}\nexpected {expected:?}", hex(first), hex(second)));
+        }
+        let taken: &[u32] = [&[], first, second][expected.taken as usize];
+        let length = (taken.len() - taken.iter().rev().take_while(|p| **p == 0x0A).count()) as u32;
+        let expected = HostChosen { taken: expected.taken, length, number: expected.number, place: expected.place };
+        let told = library::choose(a.list(), b.list(), &lent);
+        if told != expected || !a.whole() || !b.whole() || !lent.whole() {
+            self.fail(|| format!("choice of {} and {}\nlibrary  {told:?}\nexpected {expected:?}", hex(first), hex(second)));
         }
     }
 
@@ -276,13 +320,7 @@ impl Run {
         for _ in 0..times {
             let n = 31 + self.random.below(1200);
             let text = alphabet.text(&mut self.random, n);
-            let period = if n <= 510 {
-                32
-            } else if n <= 1023 {
-                64
-            } else {
-                128
-            };
+            let period = edges::period(n);
             let checkpoints = (n + 1) / period;
             if checkpoints == 0 {
                 continue;
@@ -308,7 +346,7 @@ impl Run {
             let lent = Lent::new(&classes, &pairs);
             self.random_texts(&alphabet, texts, &lent);
             if !lent.whole() {
-                self.fail("a lent table was changed");
+                self.fail(|| "a lent table was changed".into());
             }
             self.checked(&classes);
             for _ in 0..8 {
@@ -440,12 +478,23 @@ impl Run {
     }
 
     // Verdicts on two texts, alike, alike but for newlines, or not; and every set of causes in either.
-    fn verdicts(&mut self, alphabet: &Alphabet, times: usize, classes: &[u8], pairs: &[u8]) {
+    fn verdicts(&mut self, alphabet: &Alphabet, shelves: &Shelves, times: usize, classes: &[u8], pairs: &[u8]) {
         let real = tables::records(classes);
         for at in 0..times {
             let (n, m) = (texts::length(&mut self.random), texts::length(&mut self.random));
-            let first = alphabet.text(&mut self.random, n);
-            let mut second = if at % 4 == 0 { first.clone() } else { alphabet.text(&mut self.random, m) };
+            let (mut first, mut second) = (alphabet.text(&mut self.random, n), alphabet.text(&mut self.random, m));
+            match at % 4 {
+                0 => second = first.clone(),
+                // aimed texts, whose sums are often near to one another, and fall as letters follow
+                1 => {
+                    first = self.random.pick(&AIMS)(&mut self.random, shelves);
+                    second = first.clone();
+                    second.extend(vec![0x61; self.random.below(60)]);
+                }
+                2 => (first, second) = (aimed::long(&mut self.random, shelves, n), aimed::long(&mut self.random, shelves, m)),
+                _ => {}
+            }
+            first.extend(vec![0x0A; self.random.below(3)]);
             second.extend(vec![0x0A; self.random.below(3)]);
             self.judged(&first, &second, classes, pairs);
         }
@@ -464,69 +513,74 @@ impl Run {
             self.judged(&texts[0], &texts[1], if has(4) { &bad } else { classes }, if has(5) { &short } else { pairs });
         }
     }
+
+    // All of scoring, reading and choosing: what is aimed first, what is drawn or counted out after it.
+    fn scoring(&mut self, classes: &[u8], pairs: &[u8], languages: &[u8]) {
+        let (classes, pairs) = (&classes, &pairs);
+        let records = tables::records(classes);
+        let (alphabet, shelves) = (&Alphabet::new(&records), &Shelves::new(&records, pairs));
+        let kept: Vec<Record> =
+            records.iter().filter(|r| r.last >= BUILTIN_END && alphabet.representatives.contains(&r.first)).copied().collect();
+        let (real, small) = (&Lent::new(classes, pairs), &Lent::new(&tables::bytes(&kept), pairs));
+        eprintln!("{} flag words, {} records, {} kept for short texts", alphabet.representatives.len(), records.len(), kept.len());
+        self.during("cut-offs and limits", |run| run.aimed_texts(run.times(500, 10_000), shelves, real));
+        self.during("cut-offs and limits, lent tables", |run| run.aimed_lent(run.times(200, 4_000)));
+        self.during("periods", |run| run.aimed_periods(run.times(30, 600), shelves, real));
+        self.during("the default threshold", |run| run.aimed_default(run.times(70, 700), real));
+        self.during("edges of class tables", |run| run.aimed_tables(run.times(2_000, 40_000), pairs));
+        self.during("longest texts with each cause", |run| run.aimed_lengths(classes, pairs));
+        self.during("texts in real languages", |run| run.in_languages(run.times(600, 10_000), &records, languages, real));
+        self.during("causes of scoring", |run| run.causes_of_scoring(run.times(20, 400), classes, pairs));
+        self.during("reading", |run| run.reading(alphabet, run.times(40_000, 1_000_000)));
+        self.during("verdicts", |run| run.verdicts(alphabet, shelves, run.times(1_000, 10_000), classes, pairs));
+        self.during("lengths", |run| run.lengths(alphabet, run.times(40, 500), real));
+        self.during("longest texts", |run| run.longest(alphabet, run.times(3, 20), classes, pairs));
+        self.during("thresholds at a checkpoint", |run| run.at_a_checkpoint(alphabet, run.times(1_000, 20_000), real));
+        self.during("lent tables", |run| run.lent_tables(run.times(60, 1_000), 60));
+        self.during("bytes scored in one call", |run| run.bytes_scored(alphabet, run.times(2_000, 30_000), classes, pairs));
+        self.during("many lines in one call", |run| run.bursts(alphabet, run.times(1_000, 20_000), classes, pairs));
+        self.during("causes of many lines", |run| run.causes_of_bursts(run.times(2, 20), classes, pairs));
+        self.during("the Rust package's lines and choices", |run| run.package(alphabet, run.times(500, 10_000), classes, pairs));
+        self.during("texts of every script", |run| run.random_texts(alphabet, run.times(10_000, 100_000), real));
+        self.during("short texts, all tables", |run| run.short_texts(&alphabet.representatives, run.times(2, 3) as u32, real));
+        self.during("short texts, their own records", |run| {
+            run.short_texts(&alphabet.representatives, run.times(3, 4) as u32, small);
+            if !real.whole() || !small.whole() {
+                run.fail(|| "a lent table was changed".into());
+            }
+        });
+    }
 }
 
 fn main() {
     let words: Vec<String> = std::env::args().skip(1).collect();
     let number = |seed: &str| seed.parse().expect("a seed is a whole number");
-    let (full, seed, dir, rankings_only) = match words.iter().map(String::as_str).collect::<Vec<_>>()[..] {
-        [how @ ("quick" | "full"), dir] => (how == "full", SEED, dir, false),
-        [how @ ("quick" | "full"), dir, seed] => (how == "full", number(seed), dir, false),
-        [how @ ("quick" | "full"), dir, seed, "coherence"] => (how == "full", number(seed), dir, true),
+    let (full, survey, dir, seed, part) = match words.iter().map(String::as_str).collect::<Vec<_>>()[..] {
+        [how @ ("quick" | "full" | "survey"), dir, ref more @ ..] if more.len() < 3 => {
+            (how == "full", how == "survey", dir, more.first().map_or(SEED, |seed| number(seed)), more.get(1).copied())
+        }
         _ => {
-            eprintln!("usage: differential quick|full TABLES [SEED [coherence]]");
+            eprintln!("usage: differential quick|full|survey TABLES [SEED [scoring|coherence]]");
             std::process::exit(2)
         }
     };
     let table = |name: &str| std::fs::read(format!("{dir}/{name}.bin")).unwrap_or_else(|e| panic!("{dir}/{name}.bin: {e}"));
     let (classes, pairs, languages) = (table("classes"), table("pairs"), table("languages"));
-    let records = tables::records(&classes);
-    let alphabet = Alphabet::new(&records);
-    let kept: Vec<Record> =
-        records.iter().filter(|r| r.last >= BUILTIN_END && alphabet.representatives.contains(&r.first)).copied().collect();
-    let (real, small) = (Lent::new(&classes, &pairs), Lent::new(&tables::bytes(&kept), &pairs));
-    eprintln!("seed {seed}, {} flag words, {} records, {} kept for short texts", alphabet.representatives.len(), records.len(), kept.len());
-    let began = (Instant::now(), 0);
     let coherence = coherence::Tally::default();
-    let mut run = Run { seed, full, cases: 0, refused: 0, stopped: 0, coherence, random: Random::new(seed), phase: "", began };
+    let mut run =
+        Run { seed, full, cases: 0, refused: 0, stopped: 0, coherence, random: Random::new(seed), phase: "", began: 0, survey, found: 0 };
     let started = Instant::now();
-    if rankings_only {
-        run.coherence(&classes, &pairs, &languages);
-        run.phase("");
-        return run.ended(started);
+    walls::watch();
+    eprintln!("seed {seed}, over {}", env!("LIBRARY"));
+    if part != Some("coherence") {
+        run.scoring(&classes, &pairs, &languages);
     }
-
-    run.phase("short texts, all tables");
-    run.short_texts(&alphabet.representatives, run.times(2, 3) as u32, &real);
-    run.phase("short texts, their own records");
-    run.short_texts(&alphabet.representatives, run.times(3, 4) as u32, &small);
-    run.phase("texts of every script");
-    run.random_texts(&alphabet, run.times(10_000, 100_000), &real);
-    run.phase("lengths");
-    run.lengths(&alphabet, run.times(40, 500), &real);
-    run.phase("longest texts");
-    run.longest(&alphabet, run.times(3, 20), &classes, &pairs);
-    run.phase("thresholds at a checkpoint");
-    run.at_a_checkpoint(&alphabet, run.times(1_000, 20_000), &real);
-    run.phase("lent tables");
-    run.lent_tables(run.times(60, 1_000), 60);
-    run.phase("causes of scoring");
-    run.causes_of_scoring(run.times(20, 400), &classes, &pairs);
-    run.phase("reading");
-    run.reading(&alphabet, run.times(40_000, 1_000_000));
-    run.phase("bytes scored in one call");
-    run.bytes_scored(&alphabet, run.times(2_000, 30_000), &classes, &pairs);
-    run.phase("many lines in one call");
-    run.bursts(&alphabet, run.times(1_000, 20_000), &classes, &pairs);
-    run.causes_of_bursts(run.times(2, 20), &classes, &pairs);
-    run.phase("the Rust package's lines and choices");
-    run.package(&alphabet, run.times(500, 10_000), &classes, &pairs);
-    run.phase("verdicts");
-    run.verdicts(&alphabet, run.times(1_000, 10_000), &classes, &pairs);
-    run.coherence(&classes, &pairs, &languages);
-    run.phase("");
-    if !real.whole() || !small.whole() {
-        run.fail("a lent table was changed");
+    if part != Some("scoring") {
+        run.coherence(&classes, &pairs, &languages);
+    }
+    if survey {
+        println!("survey: {} cases, found in {} phases", run.cases, run.found);
+        std::process::exit((run.found > 0) as i32);
     }
     run.ended(started);
 }

@@ -45,8 +45,18 @@ pub struct HostVerdict {
     pub place: u32,
 }
 
+#[repr(C)]
+#[derive(Clone, Copy, Default)]
+pub struct HostChosen {
+    pub taken: u32,
+    pub length: u32,
+    pub number: u32,
+    pub place: u32,
+}
+
 // The layouts that the library writes.
 const _: () = assert!(size_of::<HostRead>() == 12 && size_of::<HostScore>() == 52 && size_of::<HostVerdict>() == 16);
+const _: () = assert!(size_of::<HostChosen>() == 16 && offset_of!(HostChosen, length) == 4 && offset_of!(HostChosen, number) == 8);
 const _: () = assert!(offset_of!(HostScore, number) == 0 && offset_of!(HostScore, place) == 4 && offset_of!(HostScore, ratios) == 8);
 const _: () = assert!(offset_of!(HostScore, sum) == 40 && offset_of!(HostScore, fed) == 44 && offset_of!(HostScore, stopped) == 48);
 const _: () = assert!(offset_of!(Ratios, symbols) == 0 && offset_of!(Ratios, accents) == 4 && offset_of!(Ratios, unprintable) == 8);
@@ -78,6 +88,8 @@ unsafe extern "C" {
         classes: *const u8, classes_n: usize, pairs: *const u8, pairs_n: usize, out: *mut u32, room: usize) -> HostRead;
     fn drasumira_verdict(first: *const u32, first_n: usize, second: *const u32, second_n: usize,
         classes: *const u8, classes_n: usize, pairs: *const u8, pairs_n: usize) -> HostVerdict;
+    fn drasumira_choose(first: *const u32, first_n: usize, second: *const u32, second_n: usize,
+        classes: *const u8, classes_n: usize, pairs: *const u8, pairs_n: usize) -> HostChosen;
 }
 
 pub fn check_classes(classes: &[u8]) -> HostRead {
@@ -123,4 +135,9 @@ pub fn score_lines(bytes: &[u8], threshold: f32, classes: &[u8], pairs: &[u8], o
 pub fn verdict(first: &[char], second: &[char], classes: &[u8], pairs: &[u8]) -> HostVerdict {
     let (a, b) = (first.as_ptr().cast::<u32>(), second.as_ptr().cast::<u32>());
     unsafe { drasumira_verdict(a, first.len(), b, second.len(), classes.as_ptr(), classes.len(), pairs.as_ptr(), pairs.len()) }
+}
+
+pub fn choose(first: &[char], second: &[char], classes: &[u8], pairs: &[u8]) -> HostChosen {
+    let (a, b) = (first.as_ptr().cast::<u32>(), second.as_ptr().cast::<u32>());
+    unsafe { drasumira_choose(a, first.len(), b, second.len(), classes.as_ptr(), classes.len(), pairs.as_ptr(), pairs.len()) }
 }

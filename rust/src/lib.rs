@@ -244,7 +244,7 @@ pub fn verdict(first: &[char], second: &[char], tables: &Tables) -> Result<Which
 }
 
 /// The more readable of two texts, without the newlines at its end; an empty part of the first where either is refused.
-/// The newlines are cut here and not by the proved library, since a reference does not cross from it.
+/// Which text, and how many of its characters, is the library's word.
 ///
 /// ```
 /// use drasumira::{Tables, choose};
@@ -252,11 +252,7 @@ pub fn verdict(first: &[char], second: &[char], tables: &Tables) -> Result<Which
 /// assert_eq!(choose(&noise, &plain, &Tables::full()).iter().collect::<String>(), "plain");
 /// ```
 pub fn choose<'a>(first: &'a [char], second: &'a [char], tables: &Tables) -> &'a [char] {
-    let taken = match verdict(first, second, tables) {
-        Ok(Which::First) => first,
-        Ok(Which::Second) => second,
-        Err(_) => &first[..0],
-    };
-    let kept = taken.iter().rposition(|c| *c != '\n').map_or(0, |last| last + 1);
-    &taken[..kept]
+    let told = host::choose(first, second, &tables.classes, &tables.pairs);
+    let taken = if told.taken == 2 { second } else { first };
+    &taken[..told.length as usize]
 }

@@ -106,6 +106,17 @@ fn the_chooser() {
 }
 
 #[test]
+fn the_part_lies_in_the_text_taken() {
+    let tables = Tables::builtin_only();
+    let (plain, noise, foreign) = (chars("plain\n"), chars("\u{1}\u{2}\n"), chars("Ж"));
+    let lies = |first: &[char], second: &[char]| choose(first, second, &tables).as_ptr();
+    assert_eq!(lies(&noise, &plain), plain.as_ptr());
+    assert_eq!(lies(&plain, &plain.clone()), plain.as_ptr());
+    assert_eq!(lies(&plain, &foreign), plain.as_ptr());
+    assert_eq!(lies(&foreign, &plain), foreign.as_ptr());
+}
+
+#[test]
 fn the_cut_is_what_01_says() {
     let tables = Tables::builtin_only();
     for text in ["", "\n", "a", "a\n", "\na\n\n", "a\nb", "a \n", "\r\n"] {

@@ -1,3 +1,4 @@
+pub mod Chosen
 pub mod Host
 pub mod Lent
 pub mod Matches

@@ -1,6 +1,8 @@
 // The flat form of each answer: no enum crosses to a host.
 ghost use mathlib.Core.Path.{_≡_};
+ghost use Rattle.host.specs.Chosen.{hostChosen};
 ghost use Rattle.host.specs.Host.{hostCounted, hostScore, hostVerdict};
+use crate::HostChosen;
 use crate::HostRead;
 use crate::HostScore;
 use crate::HostVerdict;
@@ -9,6 +11,7 @@ use base::one;
 use base::refusals::ACCEPTED;
 use md::Scored;
 use md_chooser::Judged;
+use md_chooser::Part;
 use ratio::rounding::no_ratios;
 
 pub fn flat_counted(counted: Counted) -> HostRead
@@ -82,5 +85,18 @@ pub fn flat_judged(judged: Judged) -> HostVerdict
             number: second.number,
             place: second.place,
         },
+    }
+}
+
+pub fn flat_chosen(part: Part) -> HostChosen
+    ensures { λ r. ⌜ r ≡ hostChosen (part .judged) (part .length) ⌝ }
+{
+    let judged = part.judged;
+    let verdict = flat_judged(judged);
+    HostChosen {
+        taken: verdict.taken,
+        length: part.length,
+        number: verdict.number,
+        place: verdict.place,
     }
 }

@@ -8,13 +8,15 @@ ghost use Rattle.utf8.specs.Answer.{answer, outAfter};
 ghost use Rattle.md.specs.MessRatio.{messRatio, messRatioDefault};
 ghost use Rattle.md_utf8.specs.ScoreUtf8.{messRatioUtf8, messRatioUtf8Default};
 ghost use Rattle.md_lines.specs.Burst as bursts;
-ghost use Rattle.md_chooser.specs.Choose.{verdictOf};
+ghost use Rattle.md_chooser.specs.Choose.{chosen, verdictOf};
 ghost use Rattle.cd.specs.Causes.{causes, causesDefault};
 ghost use Rattle.cd.specs.Coherence.{DEFAULT-THRESHOLD, matchesOf, workAfter};
+ghost use Rattle.host.specs.Chosen.{hostChosen};
 ghost use Rattle.host.specs.Host.{hostCounted, hostScore, hostVerdict};
 ghost use Rattle.host.specs.Matches.{hostRanking};
 use cd_list::HostRanking;
 use cd_ranking::CoherenceMatch;
+use flat::flat_chosen;
 use flat::flat_counted;
 use flat::flat_judged;
 use flat::flat_scored;
@@ -140,6 +142,29 @@ pub extern "C" fn drasumira_verdict(
     ensures { λ r. ⌜ r ≡ hostVerdict (verdictOf (now (first .entry)) (now (second .entry)) (now (classes .entry)) (now (pairs .entry))) ⌝ }
 {
     flat_judged(md_chooser::verdict(first, second, classes, pairs))
+}
+
+// What the chooser hands back, in numbers: the text taken, 1 or 2, 0 for none; how many of its code points stand before its trailing
+// newlines; and the refusal's number and place. drasumira_verdict says which text was refused.
+#[repr(C)]
+pub struct HostChosen {
+    pub taken: u32,
+    pub length: u32,
+    pub number: u32,
+    pub place: u32,
+}
+
+// The more readable of two texts, cut before its trailing newlines, by its length. Nothing of the first where either is refused.
+#[no_mangle]
+pub extern "C" fn drasumira_choose(
+    first: &[u32],
+    second: &[u32],
+    classes: &[u8],
+    pairs: &[u8],
+) -> HostChosen
+    ensures { λ r. ⌜ r ≡ hostChosen (verdictOf (now (first .entry)) (now (second .entry)) (now (classes .entry)) (now (pairs .entry))) (length (chosen (now (first .entry)) (now (second .entry)) (now (classes .entry)) (now (pairs .entry)))) ⌝ }
+{
+    flat_chosen(md_chooser::choose_part(first, second, classes, pairs))
 }
 
 // The ranking of a text's languages, into the first entries of matches. The work area is 4 words a code point, zero after acceptance. A refusal

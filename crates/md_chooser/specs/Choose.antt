@@ -31,6 +31,14 @@ partOf Second first second = cut second
 partOf (FirstRefused r) first second = []
 partOf (SecondRefused r) first second = []
 
+-- the text of which a part is handed back: the second where it is taken, and else the first ("an empty part of the first"). Of where the two
+-- texts lie it gives where the part lies
+unfoldable pub textOf : {A : Type 0} → Judged → A → A → A
+textOf First first second = first
+textOf Second first second = second
+textOf (FirstRefused r) first second = first
+textOf (SecondRefused r) first second = first
+
 -- the part handed back is the cut of the text that the verdict names, or empty
 unfoldable pub chosen : List ℕ → List ℕ → List ℕ → List ℕ → List ℕ
 chosen first second classes pairs = partOf (verdictOf first second classes pairs) first second

@@ -1,7 +1,9 @@
 // The chooser (document 01, "The scan"): the more readable of two lent texts, and the verdict on them.
 ghost use mathlib.Core.Path.{_≡_};
+ghost use lib.ListN.{length};
 ghost use Rattle.md_chooser.specs.Inner.Cut.{CutLength};
-ghost use Rattle.md_chooser.specs.Choose.{chosen, verdictOf};
+ghost use Rattle.md_chooser.specs.Inner.Part.{PartLength};
+ghost use Rattle.md_chooser.specs.Choose.{chosen, textOf, verdictOf};
 ghost use Rattle.md_chooser.specs.Choose.{judged as judgedBy};
 use base::Refusal;
 use base::limits::NEWLINE;
@@ -15,23 +17,37 @@ pub enum Judged {
     SecondRefused(Refusal),
 }
 
+// The verdict, and how many code points are handed back: what `choose` answers, in numbers, for a host to which no slice crosses.
+pub struct Part {
+    pub judged: Judged,
+    pub length: u32,
+}
+
 // The more readable of two texts, each scored whole: the part before its trailing newlines. An empty part of the first where either is
 // refused; `verdict` says which and why.
 pub fn choose<'a>(first: &'a [u32], second: &'a [u32], classes: &[u8], pairs: &[u8]) -> &'a [u32]
     ensures { λ r. ⌜ now r ≡ chosen (now (first .entry)) (now (second .entry)) (now (classes .entry)) (now (pairs .entry)) ⌝ }
+    ensures { λ r. ⌜ r .ptr ≡ textOf (verdictOf (now (first .entry)) (now (second .entry)) (now (classes .entry)) (now (pairs .entry))) (first .entry .ptr) (second .entry .ptr) ⌝ }
 {
     let judged = verdict(first, second, classes, pairs);
+    let n = part_length(judged, first, second);
     match judged {
-        Judged::First => {
-            let n = cut_length(first);
-            &first[..n]
-        }
-        Judged::Second => {
-            let n = cut_length(second);
-            &second[..n]
-        }
+        Judged::First => &first[..n],
+        Judged::Second => &second[..n],
         Judged::FirstRefused(_) => &first[..0],
         Judged::SecondRefused(_) => &first[..0],
+    }
+}
+
+// The same, told in numbers.
+pub fn choose_part(first: &[u32], second: &[u32], classes: &[u8], pairs: &[u8]) -> Part
+    ensures { λ r. ⌜ (r .judged ≡ verdictOf (now (first .entry)) (now (second .entry)) (now (classes .entry)) (now (pairs .entry))) × (r .length ≡ length (chosen (now (first .entry)) (now (second .entry)) (now (classes .entry)) (now (pairs .entry)))) ⌝ }
+{
+    let told = verdict(first, second, classes, pairs);
+    let n = part_length(told, first, second);
+    Part {
+        judged: told,
+        length: n as u32,
     }
 }
 
@@ -59,6 +75,18 @@ fn judge(first: Scored, second: Scored) -> Judged
                 Judged::First
             },
         },
+    }
+}
+
+// How many code points of the text that the verdict names are handed back: none where one was refused.
+fn part_length(judged: Judged, first: &[u32], second: &[u32]) -> usize
+    ensures { λ r. ⌜ PartLength judged (now (first .entry)) (now (second .entry)) r ⌝ }
+{
+    match judged {
+        Judged::First => cut_length(first),
+        Judged::Second => cut_length(second),
+        Judged::FirstRefused(_) => 0,
+        Judged::SecondRefused(_) => 0,
     }
 }
 

@@ -1,4 +1,5 @@
 pub mod CjkInvalidStop
+pub mod SymbolsAsSource
 pub mod TooManyAccentuated
 pub mod TooManySymbolOrPunctuation
 pub mod Unprintable

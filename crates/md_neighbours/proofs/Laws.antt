@@ -1,2 +1,3 @@
+pub mod DoubledAsSource
 pub mod SuspiciousDuplicateAccent
 pub mod SuspiciousRange

@@ -1,2 +1,3 @@
+pub mod Accepted
 pub mod Lendable
 pub mod ScoreUtf8

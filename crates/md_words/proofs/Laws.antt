@@ -1,2 +1,3 @@
+pub mod ArchaicAsSource
 pub mod ArchaicUpperLower
 pub mod SuperWeirdWord

@@ -1,6 +1,6 @@
 -- Archaic case (01): "as the source, with its first branch only if the running count is above 0; a leading space is thus counted as a
 -- letter seen." Branch by branch from the Rust's ArchaicUpperLowerPlugin. `last_alpha_seen` is its flags, 0 for none: with none the case
--- does not change, and `buf`, which the source then leaves, is false in every state that feeding reaches.
+-- does not change, and `buf`, which the source then leaves, is false in every state that feeding reaches (`archaic-as-source`).
 -- The laws stand in proofs/Laws/ArchaicUpperLower.
 -- Assumes nothing.
 use Prim.Native.Nat.{ℕ, _+_}

@@ -86,7 +86,7 @@ module _ (text classes pairs t included : List ℕ) (work room : ℕ) where
       cause-on e c o = o ∙ rw (le-ltb LONGEST-RANKED (length text) h, e)
 
 -- ---- where there is no cause
-or-free : (a b : Bool) → a || b ≡ false → (a ≡ false) × (b ≡ false)
+pub or-free : (a b : Bool) → a || b ≡ false → (a ≡ false) × (b ≡ false)
 or-free true b e = absurd (no (told b e))
   where
     told : (b : Bool) → true ≡ false → _≡_ {A = ℕ} 0 1

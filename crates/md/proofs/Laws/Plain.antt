@@ -31,24 +31,28 @@ use Rattle.md.proofs.Laws.Accepted.{scored-faultless}
 use Rattle.md.specs.Inner.Plain.{PlainScore, PlainAnswer}
 
 -- what holds of the answer after k characters, whatever they were, holds of every answer
-abbrev Always : (Score → Type 0) → Type 0
+abbrev pub Always : (Score → Type 0) → Type 0
 Always P = (k : ℕ) (t : Detectors) → Within k t → k ≤ LARGEST → (fed : ℕ) (early : Bool) (s : Score) → scored t fed early ≡ Told s → P s
 
 same : (P : Score → Type 0) (s r : Score) → Told r ≡ Told s → P r → P s
 same P s r e c = let z : r ≡ s = cc in rw z at c
 
-always-plain : Always PlainScore
+pub always-plain : Always PlainScore
 unfolding scored sumOf
 always-plain k t w h fed early s e =
     let p = fractions-proper k t w h in
     same PlainScore s _ e (record { ratios = ratios-plain (fractions t) p; sum = sum-plain (fractions t) p })
 
-always-at-most : Always (λ s. AtMost (s .ratios))
+-- "All but CJK stops have ratios of at most 2, 1, 8, 2, 4, 1 and 1, in order": those of a score, in f32
+abbrev pub Bounded : Score → Type 0
+Bounded s = AtMost (s .ratios)
+
+pub always-at-most : Always Bounded
 unfolding scored
-always-at-most k t w h fed early s e = same (λ s. AtMost (s .ratios)) s _ e (ratios-at-most k t w h)
+always-at-most k t w h fed early s e = same Bounded s _ e (ratios-at-most k t w h)
 
 module _ (text : List ℕ) (limit : Limit) (classes pairs : List ℕ) (short : length text ≤ LONGEST-TEXT) (P : Score → Type 0) (always : Always P) where
-  accepted-always : (s : Score) → acceptedScore classes pairs text limit ≡ Told s → P s
+  pub accepted-always : (s : Score) → acceptedScore classes pairs text limit ≡ Told s → P s
   unfolding acceptedScore
   accepted-always s e =
       let k = stopOf classes pairs text limit in
@@ -71,6 +75,5 @@ module _ (text : List ℕ) (threshold : Float) (classes pairs : List ℕ) where
   pub ratio-plain : PlainAnswer (messRatio text threshold classes pairs)
   ratio-plain s e = ratio-always PlainScore always-plain s e
 
-  -- "All but CJK stops have ratios of at most 2, 1, 8, 2, 4, 1 and 1, in order"
-  pub ratio-at-most : (s : Score) → messRatio text threshold classes pairs ≡ Told s → AtMost (s .ratios)
-  ratio-at-most s e = ratio-always (λ s. AtMost (s .ratios)) always-at-most s e
+  pub ratio-at-most : (s : Score) → messRatio text threshold classes pairs ≡ Told s → Bounded s
+  ratio-at-most s e = ratio-always Bounded always-at-most s e

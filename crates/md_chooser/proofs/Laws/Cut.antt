@@ -10,6 +10,7 @@ use lib.ListN.{length, getD, take}
 use lib.Seq.{take-suc}
 use borrow.Author.Tests.{ne-eqb}
 use Rattle.base.specs.Limits.{NEWLINE}
+use Rattle.base.proofs.Laws.Tests.{cond-both}
 use Rattle.md_chooser.specs.Cut.{onlyNewlines, cut}
 
 -- a newline more
@@ -49,3 +50,10 @@ module _ (text : List ℕ) (n : ℕ) (more : 0 < n) (inside : n ≤ length text)
 pub cut-none : (text : List ℕ) (n : ℕ) → n ≤ 0 → take n text ≡ cut (take n text)
 unfolding cut
 cut-none text n h = let e : n ≡ 0 = omega arith in rw e
+
+-- no more is left than there was
+pub cut-within : (l : List ℕ) → length (cut l) ≤ length l
+unfolding cut
+cut-within [] = omega arith
+cut-within (x ∷ xs) =
+    cond-both (λ (l : List ℕ). length l ≤ suc (length xs)) (onlyNewlines (x ∷ xs)) [] (x ∷ cut xs) (omega arith) (omega (arith, cut-within xs))

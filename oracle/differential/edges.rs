@@ -1,0 +1,182 @@
+// The aimed texts (aimed.rs) and the aimed tables, each put to the library: cut-offs, limits and periods, with thresholds at a sum that is reached;
+// class tables at the edges of each of 01's rules; characters in the gaps of a lent table.
+use crate::aimed::{self, AIMS, Shelves};
+use crate::library::Lent;
+use crate::tables::{self, BUILTIN_END, Record};
+use crate::texts::Alphabet;
+use crate::{LONGEST_TEXT, Run, sum_after};
+use oracle::open::LENT;
+
+const NEVER: f32 = 1000.0;
+const PERIODS: [(usize, usize); 3] = [(510, 32), (1023, 64), (usize::MAX, 128)];
+const MOST_RECORDS: u32 = 8_192;
+const FLAG_BITS: u32 = 32;
+
+const EDGES: [u32; 20] = [
+    0,
+    1,
+    0x24F,
+    0x250,
+    0x251,
+    0x10000,
+    0x10001,
+    0xD7FE,
+    0xD7FF,
+    0xD800,
+    0xD801,
+    0xDBFF,
+    0xDFFF,
+    0xE000,
+    0xE001,
+    0x10FFFE,
+    0x10FFFF,
+    0x110000,
+    0x8000_0000,
+    u32::MAX,
+];
+const RANGE_EDGES: [u16; 6] = [0, 1, 510, 511, 512, u16::MAX];
+
+pub fn period(n: usize) -> usize {
+    PERIODS.iter().find(|(most, _)| n <= *most).expect("a period").1
+}
+
+impl Run {
+    // A text whole, and then with a threshold at the sum of a checkpoint, where it has one, and the floats beside that.
+    fn aimed_at(&mut self, text: &[u32], lent: &Lent) {
+        self.accepted(text, Some(NEVER), lent);
+        let period = period(text.len());
+        let checkpoints = (text.len() + 1) / period;
+        if checkpoints == 0 {
+            return self.accepted(text, Some(0.0), lent);
+        }
+        let which = 1 + self.random.below(checkpoints);
+        let sum = sum_after(text, period * which);
+        for threshold in [sum, sum.next_up(), sum.next_down()] {
+            self.accepted(text, Some(threshold), lent);
+        }
+        self.accepted(text, None, lent);
+    }
+
+    pub fn aimed_texts(&mut self, times: usize, shelves: &Shelves, lent: &Lent) {
+        for aim in (0..times).flat_map(|_| AIMS) {
+            let text = aim(&mut self.random, shelves);
+            self.aimed_at(&text, lent);
+        }
+    }
+
+    // Lengths at each period's edges and at the checkpoints, the one at the newline among them.
+    pub fn aimed_periods(&mut self, times: usize, shelves: &Shelves, lent: &Lent) {
+        for _ in 0..times {
+            for n in [30, 31, 32, 33, 62, 63, 64, 95, 127, 509, 510, 511, 512, 575, 639, 1022, 1023, 1024, 1025, 1151, 1279] {
+                let text = aimed::long(&mut self.random, shelves, n);
+                self.aimed_at(&text, lent);
+            }
+        }
+    }
+
+    // The threshold that the default call takes, f32 0.2: sums of just that, and of the fractions next to it.
+    pub fn aimed_default(&mut self, times: usize, lent: &Lent) {
+        for at in 0..times {
+            // k doubled accents over n letters and no other ratio: 2k/n
+            let (k, n) = [(2, 20), (3, 30), (1, 10), (2, 21), (2, 19), (3, 29), (3, 31)][at % 7];
+            let mut text: Vec<u32> = (0..k).flat_map(|_| [0x6F, 0xE9, 0xE8]).collect();
+            text.resize(n, 0x6F);
+            text.resize(31 + self.random.below(2), 0x20);
+            self.accepted(&text, None, lent);
+            self.accepted(&text, Some(0.2f32.next_up()), lent);
+        }
+    }
+
+    // The same aims with lent tables that have every kind of flag word, and a record for the stops.
+    pub fn aimed_lent(&mut self, times: usize) {
+        for at in 0..times {
+            let mut records = tables::random_records(&mut self.random, [20, 60, 200][at % 3]);
+            if at % 4 == 0 {
+                let end = records.partition_point(|record| record.last < 0x4E00);
+                records.truncate(end);
+                let flags = tables::random_flags(&mut self.random);
+                records.push(Record { first: 0x4E00, last: 0x4E40, flags, range: 9, zero: 0, base: 0, lower: 0 });
+            }
+            let (classes, pairs) = (tables::bytes(&records), tables::random_pairs(&mut self.random));
+            lend(&records, &pairs);
+            let (shelves, lent) = (Shelves::new(&records, &pairs), Lent::new(&classes, &pairs));
+            self.aimed_texts(2, &shelves, &lent);
+            self.gaps(&records, &classes, &pairs);
+            LENT.with_borrow_mut(|l| *l = oracle::open::Lent::default());
+        }
+    }
+
+    // Characters beside a record: in a gap before, between or behind the records, or the edge of the next.
+    fn gaps(&mut self, records: &[Record], classes: &[u8], pairs: &[u8]) {
+        let alphabet = Alphabet::new(records);
+        for _ in 0..6 {
+            let n = self.random.below(12);
+            let mut text = alphabet.text(&mut self.random, n);
+            for _ in 0..1 + self.random.below(2) {
+                let record = *self.random.pick(records);
+                let at = self.random.below(text.len() + 1);
+                text.insert(at, *self.random.pick(&[record.first - 1, record.last + 1, record.first, record.last]));
+            }
+            text.iter_mut().filter(|p| (0xD800..0xE000).contains(*p)).for_each(|p| *p = BUILTIN_END - 1);
+            self.scored(&text, Some(NEVER), classes, pairs);
+        }
+    }
+
+    // Class tables of one and two records at the edges of each field, with every three flags; tables of 8,191 to 8,193 records.
+    pub fn aimed_tables(&mut self, times: usize, pairs: &[u8]) {
+        let good = Record { first: 0x2000, last: 0x2005, flags: 0, range: 1, zero: 0, base: 0, lower: 0 };
+        for (a, b, c) in (0..FLAG_BITS).flat_map(|a| (a..FLAG_BITS).flat_map(move |b| (b..FLAG_BITS).map(move |c| (a, b, c)))) {
+            self.checked(&tables::bytes(&[Record { flags: 1 << a | 1 << b | 1 << c, ..good }]));
+        }
+        for (first, last) in EDGES.iter().flat_map(|a| EDGES.iter().map(move |b| (*a, *b))) {
+            self.checked(&tables::bytes(&[Record { first, last, ..good }]));
+            self.checked(&tables::bytes(&[good, Record { first: 0x2000 + first % 9, last: 0x2000 + last % 9, ..good }]));
+        }
+        for edge in EDGES {
+            self.checked(&tables::bytes(&[Record { base: edge, ..good }]));
+            self.checked(&tables::bytes(&[Record { lower: edge, ..good }]));
+        }
+        for (range, zero) in RANGE_EDGES.iter().flat_map(|a| [0, 1, 0x100, 0x8000].map(|b| (*a, b))) {
+            self.checked(&tables::bytes(&[good, Record { first: 0x2006, last: 0x2006, range, zero, ..good }]));
+        }
+        for n in MOST_RECORDS - 1..=MOST_RECORDS + 1 {
+            let one = |i: u32| Record { first: 0x10000 + 2 * i, last: 0x10000 + 2 * i, flags: 0, range: 0, zero: 0, base: 0, lower: 0 };
+            let records: Vec<Record> = (0..n).map(one).collect();
+            let mut bytes = tables::bytes(&records);
+            lend(&records, pairs);
+            for text in [[0x61, 0x10000 + 2 * n - 2], [0x61, 0x10000 + 2 * n - 3], [0x10000, 0x10001]] {
+                self.scored(&text, None, &bytes, pairs);
+            }
+            LENT.with_borrow_mut(|l| *l = oracle::open::Lent::default());
+            self.checked(&bytes);
+            bytes.pop();
+            self.checked(&bytes);
+        }
+        for _ in 0..times {
+            let mut two = [good, Record { first: 0x2006, last: 0x2009, ..good }];
+            for _ in 0..1 + self.random.below(2) {
+                tables::damage(&mut self.random, &mut two);
+            }
+            self.checked(&tables::bytes(&two));
+        }
+    }
+
+    // The longest text and one more, each with every other cause of scoring behind it.
+    pub fn aimed_lengths(&mut self, classes: &[u8], pairs: &[u8]) {
+        for n in [LONGEST_TEXT, LONGEST_TEXT + 1] {
+            let text = vec![0x61; n];
+            self.scored(&text, Some(NEVER), classes, pairs);
+            self.scored(&text, Some(f32::NAN), classes, pairs);
+            self.scored(&text, None, &classes[1..], pairs);
+            self.scored(&text, None, classes, &pairs[1..]);
+            self.scored(&[&text[1..], &[0xD800]].concat(), None, classes, pairs);
+        }
+    }
+}
+
+fn lend(records: &[Record], pairs: &[u8]) {
+    LENT.with_borrow_mut(|l| {
+        l.classes = Some(tables::for_oracle(records));
+        l.pairs = Some(pairs.to_vec());
+    });
+}
