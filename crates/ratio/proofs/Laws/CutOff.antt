@@ -1,6 +1,6 @@
 -- The comparison of a ratio with a literal, both rounded, is that of the fractions. Where a/c and p/q differ, they differ by one part in
--- p * c at least, which is more than two roundings take away as long as p * c is below 2 ^ 23. Once over p/q (`decides-alike`), and then at
--- the crate's five literals.
+-- p * c at least, which is more than two roundings take away as long as p * c is below 2 ^ 23. Once over two fractions (`least-alike`, `most-alike`,
+-- `above-alike`), then over a literal that is p/q rounded (`decides-alike`), and then at the crate's five literals.
 -- Assumes nothing.
 use Prim.Native.Nat.{ℕ, _+_, _*_, _^_, _≤_, _<_}
 use mathlib.Core.Path.{_≡_, refl, sym, ap, _∙_}
@@ -8,9 +8,9 @@ use mathlib.Core.Bool.{Bool, true, false, cond, not, _&&_}
 use native.Mathlib.Nat.{mul-le-mul-left, mul-le-mul-right, mul-comm, le-of-mul-le-mul-right, lt-of-le-of-lt}
 use native.Mathlib.Omega.{arith}
 use borrow.Author.Tests.{leb-true, ne-eqb}
-use lib.Dec.{leb, eqb, lit<, lit≤}
+use lib.Dec.{leb, ltb, eqb, lit<, lit≤}
 use lib.Pow.{pow-pos}
-use lib.Ieee.{Float, binary32, round, ofBits, le}
+use lib.Ieee.{Float, binary32, round, ofBits, le, lt}
 use lib.Ieee.Bits.{is-true}
 use lib.Ieee.Order.{round-mono}
 use Rattle.base.proofs.Laws.Tests.{split}
@@ -57,19 +57,23 @@ rounded-mono : (e f : Fraction) → Proper e → Proper f → e .num * f .den �
 unfolding rounded
 rounded-mono e f E F h = is-true (le (rounded e) (rounded f)) (round-mono binary32 (e .num) (e .den) (f .num) (f .den) (E .positive) (F .positive) h)
 
-module _ (k f : Fraction) (K : Proper k) (F : Proper f) (small : k .num * MOST-DEN < 2 ^ 23) where
-  near : k .num * f .den < 2 ^ 23
-  near = lt-of-le-of-lt (mul-le-mul-left (k .num) (F .small .den)) small
-
-  low : le (rounded k) (rounded f) ≡ leb (k .num * f .den) (f .num * k .den)
-  low =
+-- two fractions rounded are in the order of the fractions, as long as the numerator of the one times the denominator of the other is below 2 ^ 23
+module _ (k f : Fraction) (K : Proper k) (F : Proper f) (near : k .num * f .den < 2 ^ 23) where
+  pub least-alike : le (rounded k) (rounded f) ≡ leb (k .num * f .den) (f .num * k .den)
+  least-alike =
       test-is (le (rounded k) (rounded f)) (k .num * f .den) (f .num * k .den) (rounded-mono k f K F)
       (λ t. order-low ONE (partsOf k) (k .num) (k .den) (partsOf f) (f .num) (f .den) (pow-pos 149) near (rounded-once k K) (rounded-once f F) (parts-le k f K F t))
 
-  high : le (rounded f) (rounded k) ≡ leb (f .num * k .den) (k .num * f .den)
-  high =
+  pub most-alike : le (rounded f) (rounded k) ≡ leb (f .num * k .den) (k .num * f .den)
+  most-alike =
       test-is (le (rounded f) (rounded k)) (f .num * k .den) (k .num * f .den) (rounded-mono f k F K)
       (λ t. order-high ONE (partsOf k) (k .num) (k .den) (partsOf f) (f .num) (f .den) (pow-pos 149) near (rounded-once k K) (rounded-once f F) (parts-le f k F K t))
+
+  -- the same for `<`
+  pub above-alike : lt (rounded k) (rounded f) ≡ ltb (k .num * f .den) (f .num * k .den)
+  above-alike =
+      lt-not-le (rounded k) (rounded f) (rounded-plain k K .is-finite) (rounded-plain f F .is-finite)
+      ∙ ap not most-alike ∙ sym (ltb-not (k .num * f .den) (f .num * k .den))
 
 -- ---- the law, once over the literal and p / q
 abbrev asFraction : CutOff → Fraction
@@ -83,10 +87,11 @@ unfolding atLeast
 decides-alike k h l small e =
     let x = asFraction k in
     let K = proper k h l small in
+    let near : (f : Fraction) → Proper f → k .p * f .den < 2 ^ 23 = λ f F. lt-of-le-of-lt (mul-le-mul-left (k .p) (F .small .den)) small in
     let least : (f : Fraction) → Proper f → le (k .literal) (rounded f) ≡ atLeast (k .p) (k .q) f
-    = λ f F. ap (λ (z : Float). le z (rounded f)) e ∙ low x f K F small ∙ ap (λ (z : ℕ). leb (k .p * f .den) z) (mul-comm (f .num) (k .q)) in
+    = λ f F. ap (λ (z : Float). le z (rounded f)) e ∙ least-alike x f K F (near f F) ∙ ap (λ (z : ℕ). leb (k .p * f .den) z) (mul-comm (f .num) (k .q)) in
     let most : (f : Fraction) → Proper f → le (rounded f) (k .literal) ≡ atMost (k .p) (k .q) f
-    = λ f F. ap (λ (z : Float). le (rounded f) z) e ∙ high x f K F small ∙ ap (λ (z : ℕ). leb z (k .p * f .den)) (mul-comm (f .num) (k .q)) in
+    = λ f F. ap (λ (z : Float). le (rounded f) z) e ∙ most-alike x f K F (near f F) ∙ ap (λ (z : ℕ). leb z (k .p * f .den)) (mul-comm (f .num) (k .q)) in
     let fine : isFinite (k .literal) ≡ true = ap isFinite e ∙ rounded-plain x K .is-finite in
     record {
       at-least = least;
