@@ -1,0 +1,88 @@
+/* How many bytes of stack each entry of the library takes, its callees among them: `oracle/link/run-x86 oracle/link/stack.c target/staticlib/libhost.a OUT`
+   after `rt staticlib host`. It is also a C host: it declares the entries as docs/HOST.md has them, and asserts the layouts of the answers.
+   The stack below the caller is painted before a call, and looked through for the first word that is no longer the paint. Tables: no class
+   record, no suspicious pair, one language. Texts: small letters. */
+typedef unsigned char u8;
+typedef unsigned int u32;
+typedef unsigned long usize;
+
+int printf(const char *, ...);
+
+typedef struct { u32 number, place, count; } HostRead;
+typedef struct { u32 number, place; float ratios[8], sum; u32 fed, stopped; } HostScore;
+typedef struct { u32 taken, refused, number, place; } HostVerdict;
+typedef struct { u32 taken, length, number, place; } HostChosen;
+typedef struct { u32 number, place, count; } HostRanking;
+typedef struct { u32 language; float score; } CoherenceMatch;
+
+_Static_assert(sizeof(HostRead) == 12 && sizeof(HostVerdict) == 16 && sizeof(HostChosen) == 16, "by value");
+_Static_assert(sizeof(HostRanking) == 12 && sizeof(CoherenceMatch) == 8, "the ranking's");
+_Static_assert(sizeof(HostScore) == 52, "through the first pointer");
+
+#define TABLES const u8 *classes, usize classes_n, const u8 *pairs, usize pairs_n
+HostRead drasumira_check_classes(const u8 *classes, usize classes_n);
+HostRead drasumira_read(const u8 *bytes, usize n, u32 *out, usize room);
+HostScore *drasumira_score(HostScore *told, const u32 *text, usize n, float threshold, TABLES);
+HostScore *drasumira_score_default(HostScore *told, const u32 *text, usize n, TABLES);
+HostScore *drasumira_score_utf8(HostScore *told, const u8 *text, usize n, float threshold, TABLES);
+HostScore *drasumira_score_utf8_default(HostScore *told, const u8 *text, usize n, TABLES);
+HostRead drasumira_score_lines(const u8 *bytes, usize n, float threshold, TABLES, u32 *out, usize room);
+HostVerdict drasumira_verdict(const u32 *first, usize first_n, const u32 *second, usize second_n, TABLES);
+HostChosen drasumira_choose(const u32 *first, usize first_n, const u32 *second, usize second_n, TABLES);
+HostRanking drasumira_coherence(const u32 *text, usize n, float threshold, u32 small, TABLES, const u8 *languages, usize languages_n,
+    const u32 *included, usize included_n, u32 *work, usize work_n, CoherenceMatch *matches, usize matches_n);
+HostRanking drasumira_coherence_default(const u32 *text, usize n, u32 small, TABLES, const u8 *languages, usize languages_n,
+    const u32 *included, usize included_n, u32 *work, usize work_n, CoherenceMatch *matches, usize matches_n);
+
+enum { LONGEST = 65536, RANKED = 8192, DEPTH = 1 << 20, SLACK = 256 };
+
+static u32 text[LONGEST], out[LONGEST], work[4 * RANKED];
+static u8 bytes[LONGEST], pairs[32768], language[1032];
+static CoherenceMatch matches[1];
+static HostScore told;
+static usize n;
+
+#define LENT 0, 0, pairs, sizeof pairs
+#define RANKING LENT, language, sizeof language, 0, 0, work, 4 * n, matches, 1
+static void check_classes(void) { drasumira_check_classes(0, 0); }
+static void read_bytes(void) { drasumira_read(bytes, n, out, n); }
+static void score(void) { drasumira_score(&told, text, n, 9, LENT); }
+static void score_default(void) { drasumira_score_default(&told, text, n, LENT); }
+static void score_utf8(void) { drasumira_score_utf8(&told, bytes, n, 9, LENT); }
+static void score_utf8_default(void) { drasumira_score_utf8_default(&told, bytes, n, LENT); }
+static void score_lines(void) { drasumira_score_lines(bytes, n, 9, LENT, out, LONGEST); }
+static void verdict(void) { drasumira_verdict(text, n, text, n, LENT); }
+static void choose(void) { drasumira_choose(text, n, text, n, LENT); }
+static void coherence(void) { drasumira_coherence(text, n, 0, 32, RANKING); }
+static void coherence_default(void) { drasumira_coherence_default(text, n, 32, RANKING); }
+
+#define PAINT 0xA5A5A5A5A5A5A5A5ul
+static __attribute__((noinline)) usize used(void (*call)(void)) {
+    usize top = (usize)__builtin_frame_address(0) - SLACK, bottom = (top - DEPTH) & ~7ul;
+    for (volatile usize *at = (usize *)bottom; (usize)at < top; at++) *at = PAINT;
+    call();
+    volatile usize *at = (usize *)bottom;
+    while ((usize)at < top && *at == PAINT) at++;
+    return top + SLACK - (usize)at;
+}
+
+int main(void) {
+    static const struct { const char *name; void (*call)(void); usize most; } entries[] = {
+        {"check_classes", check_classes, LONGEST}, {"read", read_bytes, LONGEST}, {"score", score, LONGEST},
+        {"score_default", score_default, LONGEST}, {"score_utf8", score_utf8, LONGEST}, {"score_utf8_default", score_utf8_default, LONGEST},
+        {"score_lines", score_lines, LONGEST}, {"verdict", verdict, LONGEST}, {"choose", choose, LONGEST},
+        {"coherence", coherence, RANKED}, {"coherence_default", coherence_default, RANKED},
+    };
+    static const usize lengths[] = {80, 256, 257, 4096, 4097, RANKED, LONGEST};
+    for (usize i = 0; i < LONGEST; i++) text[i] = bytes[i] = 'a' + i * 7 % 26;
+    language[0] = 1, language[4] = 1, language[8] = 'a';
+    for (usize e = 0; e < sizeof entries / sizeof *entries; e++) {
+        printf("drasumira_%s", entries[e].name);
+        for (usize i = 0; i < sizeof lengths / sizeof *lengths; i++) {
+            n = lengths[i];
+            if (n <= entries[e].most) printf(" %lu:%lu", n, used(entries[e].call));
+        }
+        printf("\n");
+    }
+    return 0;
+}
