@@ -12,11 +12,11 @@ from pathlib import Path
 
 from wrong import ALONE, Fault, all_edits
 
-ERROR = re.compile(r"(?m)^(\S+?):(\d+):(\d+): error: (.*)$")
+ERROR = re.compile(r"(?m)^(\S+?):(\d+):(\d+): error: (.*(?:\n[ \t]+.*)*)$")  # a message may go on in indented lines
 NAMED = re.compile(r"`([^`]+)`: ")
 ALONE_TRIED = re.compile(r"(?m)^fn [^:\s]+::(\S+): no proof: .*?; `search` does not close (.*)$")
 FOLLOWS = "was not admitted (it has holes or undetermined implicits, or was rejected)"
-SHAPE = ("has no `Tie`", "has no `Need-", "expected type `tie.Need", "is not in scope", "has no field", "unknown name", "not found in module")
+SHAPE = ("has no `Tie`", "has no `Need-", "expected type `tie.Need", "is not in scope", "has no field", "this λ has", "unknown name", "not found in module")
 
 
 def place_of(path, label):
@@ -43,7 +43,7 @@ def faults(edit, log):
     if not re.search(r"(?m)^logic=not-proved", log):
         yield "the prover did not refuse it"
     for place, need, message in own:
-        if any(sign in message for sign in SHAPE):
+        if any(sign in " ".join(message.split()) for sign in SHAPE):
             yield f"{place} at {need}: refused for its shape: {message[:160]}"
     met = {(place, need) for place, need, _ in own}
     for program in edit.programs:
