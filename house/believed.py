@@ -9,6 +9,7 @@ import antt
 CALLS = {
     "classes": ["check_classes"],
     "utf8": ["read_utf8"],
+    "page": ["read_page", "write_page"],
     "md": ["mess_ratio", "mess_ratio_default"],
     "md_utf8": ["mess_ratio_utf8", "mess_ratio_utf8_default"],
     "md_lines": ["score_lines"],
@@ -22,6 +23,8 @@ CALLS = {
 STATEMENTS = [
     ("md", "DemandThree", "demand-three"),  # demand 3
     ("utf8", "Read", "accepted-encodes"),  # the reader's text is the one whose encoding the bytes are
+    ("page", "RoundTrips", "write-after-read"),  # writing what was read gives the same bytes
+    ("page", "RoundTrips", "read-after-write"),  # reading what was written gives the same text
     ("marked_cases", "Marked", "marked"),  # 01's cases (a) to (l)
 ]
 

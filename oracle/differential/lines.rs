@@ -173,7 +173,7 @@ impl Run {
         };
         let cut = taken.len() - taken.iter().rev().take_while(|p| **p == 0x0A).count();
         let (a, b) = (chars(first), chars(second));
-        let told = drasumira::choose(&a, &b, lent);
+        let told = drasumira::choose(&a[..], &b[..], lent);
         if !told.iter().map(|c| *c as u32).eq(taken[..cut].iter().copied()) {
             self.fail(|| format!("the package's choice of {} and {}", hex(first), hex(second)));
         }

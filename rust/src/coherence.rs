@@ -1,18 +1,21 @@
 use crate::host::coherence::{Question, coherence as ask};
-use crate::{Refusal, Tables, Text, read, unless_refused};
+use crate::text::points;
+use crate::{Refusal, Tables, Text, unless_refused};
 
 /// What charset-normalizer-rs gives for `small`: a layer of at most so many letters says nothing of a language.
 pub const TOO_SMALL_SEQUENCE: u32 = 32;
 
 const RECORD: usize = 1_032;
 const WORK_PER_POINT: usize = 4;
-const MOST_POINTS_READ: usize = 65_536;
+const LONGEST_RANKED: usize = 8_192;
 
 /// A language of a text, by its number in the language table, and how well the text's letters fit its own, from 0 to 1.
 #[repr(C)]
 #[derive(Clone, Copy, Debug, Default, PartialEq)]
 pub struct CoherenceMatch {
+    /// Its number in the language table.
     pub language: u32,
+    /// How well its letters fit, from 0 to 1.
     pub score: f32,
 }
 
@@ -24,18 +27,22 @@ pub struct Languages {
 
 impl Languages {
     /// Takes records of 1,032 bytes, little-endian: number u32, letter count u16, marks u16 (1 accents, 2 pure Latin), 256 letters u32
-    /// by popularity; at most 63. Refused as 8 where they are not good.
+    /// by popularity; at most 63.
     ///
     /// ```
     /// use drasumira::{Languages, Refusal};
     /// let mut record = vec![0; 1032];
-    /// assert_eq!(Languages::new(record.clone()).err(), Some(Refusal { number: 8, place: 0 }));
+    /// assert_eq!(Languages::new(record.clone()).err(), Some(Refusal::new(Refusal::BAD_LANGUAGES, 0)));
     /// record[0] = 7; // the number
     /// record[4] = 2; // two letters
     /// record[8] = b'e';
     /// record[12] = b't';
     /// assert!(Languages::new(record).is_ok());
     /// ```
+    ///
+    /// # Errors
+    ///
+    /// [`Refusal::BAD_LANGUAGES`] where they are not good.
     pub fn new(records: Vec<u8>) -> Result<Languages, Refusal> {
         let languages = Languages { records };
         // the library's own word on the table
@@ -43,6 +50,10 @@ impl Languages {
     }
 
     /// The table made from charset-normalizer-rs: 41 records of 38 languages, numbered from 1 ([`language_name`] has their names).
+    ///
+    /// # Panics
+    ///
+    /// Never: the table that this package carries is good, and a test says so.
     pub fn full() -> Languages {
         let records = include_bytes!("../../tables/languages.bin").to_vec();
         Languages::new(records).expect("the table that this package carries is good")
@@ -80,7 +91,12 @@ pub fn language_name(number: u32) -> Option<&'static str> {
 /// # Ok::<(), drasumira::Refusal>(())
 /// ```
 ///
-/// Bytes that are not UTF-8 are refused before all else, as by [`read`].
+/// A text that is refused for its length costs no memory: the work area, 16 bytes a code point, is made for at most 8,192 of them.
+///
+/// # Errors
+///
+/// Bytes as [`read`](crate::read) refuses them, before all else. Then [`Refusal::TOO_LONG`] over 8,192 code points, [`Refusal::NOT_FINITE`],
+/// [`Refusal::BAD_INCLUDED`], and [`Refusal::UNCLASSED`] for a character, or the lower case of a letter, that is in no record.
 pub fn coherence<'a>(
     text: impl Into<Text<'a>>,
     threshold: Option<f32>,
@@ -89,19 +105,10 @@ pub fn coherence<'a>(
     languages: &Languages,
     included: &[u32],
 ) -> Result<Vec<CoherenceMatch>, Refusal> {
-    let points: Vec<u32> = match text.into() {
-        Text::Chars(chars) => chars.iter().map(|c| *c as u32).collect(),
-        Text::Bytes(bytes) => {
-            let mut points = vec![0; bytes.len().min(MOST_POINTS_READ)];
-            let count = read(bytes, &mut points)?;
-            points.truncate(count);
-            points
-        }
-    };
-    ranking(&points, threshold, small, tables, languages, included)
+    ranking(&points(text.into())?, threshold, small, tables, languages, included)
 }
 
-// The work area and the list are made here, as long as they must be.
+// The work area and the list are made here, as long as they must be. A text that is too long is refused before the library looks at either.
 fn ranking(
     text: &[u32],
     threshold: Option<f32>,
@@ -112,7 +119,8 @@ fn ranking(
 ) -> Result<Vec<CoherenceMatch>, Refusal> {
     let languages = &languages.records;
     let question = Question { text, threshold, small, classes: &tables.classes, pairs: &tables.pairs, languages, included };
-    let mut work = vec![0; WORK_PER_POINT * text.len()];
+    let ranked = if text.len() > LONGEST_RANKED { 0 } else { text.len() };
+    let mut work = vec![0; WORK_PER_POINT * ranked];
     let mut matches = vec![CoherenceMatch::default(); languages.len() / RECORD];
     let told = ask(&question, &mut work, &mut matches);
     matches.truncate(told.count as usize);

@@ -1,5 +1,9 @@
-// The library's entries by the C ABI. All that is `unsafe` in this package stands here and in host/coherence.rs: each slice crosses as
-// pointer and length, and a struct of more than 16 bytes comes back through the first pointer, which is also returned.
+// The library's entries by the C ABI (docs/HOST.md). All that is `unsafe` in this package stands here and in host/coherence.rs: each slice crosses
+// as pointer and length, and a struct of more than 16 bytes comes back through the first pointer, which is also returned.
+//
+// What every call of an entry rests on, and what "as above" at each `unsafe` means: pointer and length are those of one Rust slice, so they are
+// valid, aligned and stay so for the call; what is lent for writing is a `&mut`, so it overlaps nothing else; the entry is declared as
+// crates/host/src/lib.rt has it.
 pub mod coherence;
 
 use std::mem::offset_of;
@@ -62,14 +66,22 @@ const _: () = assert!(offset_of!(HostScore, sum) == 40 && offset_of!(HostScore, 
 const _: () = assert!(offset_of!(Ratios, symbols) == 0 && offset_of!(Ratios, accents) == 4 && offset_of!(Ratios, unprintable) == 8);
 const _: () = assert!(offset_of!(Ratios, ranges) == 12 && offset_of!(Ratios, doubled) == 16 && offset_of!(Ratios, words) == 20);
 const _: () = assert!(offset_of!(Ratios, stops) == 24 && offset_of!(Ratios, archaic) == 28 && size_of::<Ratios>() == 32);
+const _: () = assert!(size_of::<char>() == size_of::<u32>() && align_of::<char>() == align_of::<u32>());
 
 // The numbers that the library puts into its output for each line: HostScore's, a float as its bits.
 pub const NUMBERS_PER_LINE: usize = size_of::<HostScore>() / size_of::<u32>();
 
-// The score that a row of the library's output holds. Both are the same 52 bytes, and every u32 is an f32's bits.
-pub fn told_in(row: &[u32]) -> HostScore {
-    let row: [u32; NUMBERS_PER_LINE] = row.try_into().expect("a whole row");
-    unsafe { std::mem::transmute(row) }
+// The score that a row of the library's output holds.
+pub fn told_in(row: &[u32; NUMBERS_PER_LINE]) -> HostScore {
+    // SAFETY: both are the same 52 bytes with no padding, and every u32 is a u32 and an f32's bits.
+    unsafe { std::mem::transmute(*row) }
+}
+
+// Characters as the code points that they are.
+pub fn points_of(text: &[char]) -> &[u32] {
+    // SAFETY: a char has the size, the alignment and the bits of the u32 that is its code point (asserted above, and char's own documents); the slice is
+    // read only, and lives as long as the other.
+    unsafe { std::slice::from_raw_parts(text.as_ptr().cast::<u32>(), text.len()) }
 }
 
 #[rustfmt::skip]
@@ -78,11 +90,7 @@ unsafe extern "C" {
     fn drasumira_read(bytes: *const u8, n: usize, out: *mut u32, room: usize) -> HostRead;
     fn drasumira_score(told: *mut HostScore, text: *const u32, n: usize, threshold: f32,
         classes: *const u8, classes_n: usize, pairs: *const u8, pairs_n: usize) -> *mut HostScore;
-    fn drasumira_score_default(told: *mut HostScore, text: *const u32, n: usize,
-        classes: *const u8, classes_n: usize, pairs: *const u8, pairs_n: usize) -> *mut HostScore;
     fn drasumira_score_utf8(told: *mut HostScore, text: *const u8, n: usize, threshold: f32,
-        classes: *const u8, classes_n: usize, pairs: *const u8, pairs_n: usize) -> *mut HostScore;
-    fn drasumira_score_utf8_default(told: *mut HostScore, text: *const u8, n: usize,
         classes: *const u8, classes_n: usize, pairs: *const u8, pairs_n: usize) -> *mut HostScore;
     fn drasumira_score_lines(bytes: *const u8, n: usize, threshold: f32,
         classes: *const u8, classes_n: usize, pairs: *const u8, pairs_n: usize, out: *mut u32, room: usize) -> HostRead;
@@ -93,51 +101,88 @@ unsafe extern "C" {
 }
 
 pub fn check_classes(classes: &[u8]) -> HostRead {
+    // SAFETY: as above.
     unsafe { drasumira_check_classes(classes.as_ptr(), classes.len()) }
 }
 
 pub fn read(bytes: &[u8], out: &mut [u32]) -> HostRead {
+    // SAFETY: as above.
     unsafe { drasumira_read(bytes.as_ptr(), bytes.len(), out.as_mut_ptr(), out.len()) }
 }
 
-// A char has the size, alignment and bits of the u32 that is its code point.
-pub fn score(text: &[char], threshold: Option<f32>, classes: &[u8], pairs: &[u8]) -> HostScore {
+pub fn score(text: &[u32], threshold: f32, classes: &[u8], pairs: &[u8]) -> HostScore {
     let mut told = HostScore::default();
-    let (t, n) = (text.as_ptr().cast::<u32>(), text.len());
-    let (c, cn, p, pn) = (classes.as_ptr(), classes.len(), pairs.as_ptr(), pairs.len());
-    unsafe {
-        match threshold {
-            Some(threshold) => drasumira_score(&mut told, t, n, threshold, c, cn, p, pn),
-            None => drasumira_score_default(&mut told, t, n, c, cn, p, pn),
-        }
-    };
+    let (c, p) = (classes, pairs);
+    // SAFETY: as above; `told` is a local of the answer's type.
+    unsafe { drasumira_score(&mut told, text.as_ptr(), text.len(), threshold, c.as_ptr(), c.len(), p.as_ptr(), p.len()) };
     told
 }
 
-pub fn score_utf8(text: &[u8], threshold: Option<f32>, classes: &[u8], pairs: &[u8]) -> HostScore {
+pub fn score_utf8(text: &[u8], threshold: f32, classes: &[u8], pairs: &[u8]) -> HostScore {
     let mut told = HostScore::default();
-    let (t, n) = (text.as_ptr(), text.len());
-    let (c, cn, p, pn) = (classes.as_ptr(), classes.len(), pairs.as_ptr(), pairs.len());
-    unsafe {
-        match threshold {
-            Some(threshold) => drasumira_score_utf8(&mut told, t, n, threshold, c, cn, p, pn),
-            None => drasumira_score_utf8_default(&mut told, t, n, c, cn, p, pn),
-        }
-    };
+    let (c, p) = (classes, pairs);
+    // SAFETY: as above; `told` is a local of the answer's type.
+    unsafe { drasumira_score_utf8(&mut told, text.as_ptr(), text.len(), threshold, c.as_ptr(), c.len(), p.as_ptr(), p.len()) };
     told
 }
 
 pub fn score_lines(bytes: &[u8], threshold: f32, classes: &[u8], pairs: &[u8], out: &mut [u32]) -> HostRead {
     let (b, n, o, room) = (bytes.as_ptr(), bytes.len(), out.as_mut_ptr(), out.len());
+    // SAFETY: as above.
     unsafe { drasumira_score_lines(b, n, threshold, classes.as_ptr(), classes.len(), pairs.as_ptr(), pairs.len(), o, room) }
 }
 
-pub fn verdict(first: &[char], second: &[char], classes: &[u8], pairs: &[u8]) -> HostVerdict {
-    let (a, b) = (first.as_ptr().cast::<u32>(), second.as_ptr().cast::<u32>());
-    unsafe { drasumira_verdict(a, first.len(), b, second.len(), classes.as_ptr(), classes.len(), pairs.as_ptr(), pairs.len()) }
+pub fn verdict(first: &[u32], second: &[u32], classes: &[u8], pairs: &[u8]) -> HostVerdict {
+    let (a, b, c, p) = (first, second, classes, pairs);
+    // SAFETY: as above.
+    unsafe { drasumira_verdict(a.as_ptr(), a.len(), b.as_ptr(), b.len(), c.as_ptr(), c.len(), p.as_ptr(), p.len()) }
 }
 
-pub fn choose(first: &[char], second: &[char], classes: &[u8], pairs: &[u8]) -> HostChosen {
-    let (a, b) = (first.as_ptr().cast::<u32>(), second.as_ptr().cast::<u32>());
-    unsafe { drasumira_choose(a, first.len(), b, second.len(), classes.as_ptr(), classes.len(), pairs.as_ptr(), pairs.len()) }
+pub fn choose(first: &[u32], second: &[u32], classes: &[u8], pairs: &[u8]) -> HostChosen {
+    let (a, b, c, p) = (first, second, classes, pairs);
+    // SAFETY: as above.
+    unsafe { drasumira_choose(a.as_ptr(), a.len(), b.as_ptr(), b.len(), c.as_ptr(), c.len(), p.as_ptr(), p.len()) }
+}
+
+// The library's own default threshold is the package's.
+#[cfg(test)]
+mod tests {
+    use super::*;
+    use crate::{DEFAULT_THRESHOLD, Tables};
+
+    #[rustfmt::skip]
+    unsafe extern "C" {
+        fn drasumira_score_default(told: *mut HostScore, text: *const u32, n: usize,
+            classes: *const u8, classes_n: usize, pairs: *const u8, pairs_n: usize) -> *mut HostScore;
+        fn drasumira_score_utf8_default(told: *mut HostScore, text: *const u8, n: usize,
+            classes: *const u8, classes_n: usize, pairs: *const u8, pairs_n: usize) -> *mut HostScore;
+    }
+
+    fn whole(told: HostScore) -> (u32, u32, u32) {
+        (told.sum.to_bits(), told.fed, told.stopped)
+    }
+
+    // Spaces, so many of them unprintable and spread evenly. The first two sums that stop are exactly 0.2; the highest of the text that does not is
+    // 8 * 1,635 / 65,408, which is 0.19998: so the library's default is above the one and at most the other.
+    #[test]
+    fn one_default() {
+        let tables = Tables::builtin_only();
+        let (c, p) = (&tables.classes, &tables.pairs);
+        for (n, unprintable, fed, stops) in [(160, 4, 160, 1), (65_408, 1_636, 640, 1), (65_408, 1_635, 65_409, 0)] {
+            let before = |i: usize| i * unprintable / n;
+            let text: Vec<u8> = (0..n).map(|i| if before(i) < before(i + 1) { 1 } else { b' ' }).collect();
+            let points: Vec<u32> = text.iter().map(|b| u32::from(*b)).collect();
+            let (mut a, mut b) = (HostScore::default(), HostScore::default());
+            // SAFETY: as for the entries above.
+            unsafe {
+                drasumira_score_default(&mut a, points.as_ptr(), points.len(), c.as_ptr(), c.len(), p.as_ptr(), p.len());
+                drasumira_score_utf8_default(&mut b, text.as_ptr(), text.len(), c.as_ptr(), c.len(), p.as_ptr(), p.len());
+            }
+            let sum = (8 * before(n.min(fed))) as f32 / fed as f32;
+            assert_eq!(whole(a), (sum.to_bits(), fed as u32, stops));
+            assert_eq!(whole(b), whole(a));
+            assert_eq!(whole(score(&points, DEFAULT_THRESHOLD, c, p)), whole(a));
+            assert_eq!(whole(score_utf8(&text, DEFAULT_THRESHOLD, c, p)), whole(a));
+        }
+    }
 }

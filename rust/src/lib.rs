@@ -24,12 +24,17 @@
 //! assert!(sums.len() == 2 && sums[0] < sums[1]);
 //! # Ok::<(), drasumira::Refusal>(())
 //! ```
+#![deny(missing_docs, clippy::undocumented_unsafe_blocks, clippy::missing_errors_doc)]
+mod chooser;
 mod coherence;
 mod host;
 mod refusal;
+mod text;
 
+pub use chooser::{RefusedText, Which, choose, verdict};
 pub use coherence::{CoherenceMatch, Languages, TOO_SMALL_SEQUENCE, coherence, language_name};
 pub use refusal::Refusal;
+pub use text::{Part, Text};
 
 /// A class table and a pair table. The class table is checked when this is made.
 #[derive(Clone, Debug)]
@@ -39,14 +44,18 @@ pub struct Tables {
 }
 
 impl Tables {
-    /// Takes class records of 24 bytes and a pair table of 32,768; refused as 5 or 7 where one is not good.
+    /// Takes class records of 24 bytes and a pair table of 32,768.
     ///
     /// ```
     /// use drasumira::{Refusal, Tables};
-    /// assert_eq!(Tables::new(vec![0; 25], vec![0; 32768]).err(), Some(Refusal { number: 5, place: 0 }));
-    /// assert_eq!(Tables::new(vec![], vec![]).err(), Some(Refusal { number: 7, place: 0 }));
+    /// assert_eq!(Tables::new(vec![0; 25], vec![0; 32768]).err(), Some(Refusal::new(Refusal::BAD_CLASSES, 0)));
+    /// assert_eq!(Tables::new(vec![], vec![]).err(), Some(Refusal::new(Refusal::BAD_PAIRS, 0)));
     /// assert!(Tables::new(vec![], vec![0; 32768]).is_ok());
     /// ```
+    ///
+    /// # Errors
+    ///
+    /// [`Refusal::BAD_CLASSES`] or [`Refusal::BAD_PAIRS`] where one is not good.
     pub fn new(classes: Vec<u8>, pairs: Vec<u8>) -> Result<Tables, Refusal> {
         accepted(host::check_classes(&classes))?;
         let tables = Tables { classes, pairs };
@@ -55,6 +64,10 @@ impl Tables {
     }
 
     /// The tables made from charset-normalizer-rs: every scalar value from U+0250 up in 4,154 records, and its pairs of ranges.
+    ///
+    /// # Panics
+    ///
+    /// Never: the tables that this package carries are good, and a test says so.
     pub fn full() -> Tables {
         let classes = include_bytes!("../../tables/classes.bin").to_vec();
         let pairs = include_bytes!("../../tables/pairs.bin").to_vec();
@@ -67,56 +80,46 @@ impl Tables {
     }
 }
 
-/// A text to score: a `&str`, code points as `&[char]`, or bytes, which are refused where they are not UTF-8. None is copied here.
-#[derive(Clone, Copy, Debug)]
-pub enum Text<'a> {
-    Bytes(&'a [u8]),
-    Chars(&'a [char]),
-}
-
-impl<'a> From<&'a str> for Text<'a> {
-    fn from(text: &'a str) -> Text<'a> {
-        Text::Bytes(text.as_bytes())
-    }
-}
-
-impl<'a> From<&'a [u8]> for Text<'a> {
-    fn from(text: &'a [u8]) -> Text<'a> {
-        Text::Bytes(text)
-    }
-}
-
-impl<'a> From<&'a [char]> for Text<'a> {
-    fn from(text: &'a [char]) -> Text<'a> {
-        Text::Chars(text)
-    }
-}
-
 /// The eight ratios in the order in which they are added, their sum, how many characters were fed (the newline that is fed after every
 /// text among them), and whether the scan stopped early because the sum had reached the threshold.
 #[derive(Clone, Copy, Debug, PartialEq)]
+#[non_exhaustive]
 pub struct Score {
+    /// Punctuation and twice the symbols, over the printable characters.
     pub symbols: f32,
+    /// Accented letters over all letters.
     pub accents: f32,
+    /// Eight times the unprintable characters, over all.
     pub unprintable: f32,
+    /// Twice the suspicious neighbours by their ranges, over the printable characters.
     pub ranges: f32,
+    /// Twice the doubled accents, over the Latin letters.
     pub doubled: f32,
+    /// Characters of weird words over those of all words.
     pub words: f32,
+    /// Two CJK stops that are no stops, over the CJK characters.
     pub stops: f32,
+    /// Characters in runs of changing case, over all.
     pub archaic: f32,
+    /// The sum of the eight, which the threshold is held against.
     pub sum: f32,
+    /// How many characters were fed.
     pub fed: u32,
+    /// Whether the scan stopped before its end.
     pub stopped: bool,
 }
 
-/// Used where no threshold is given.
+/// Used by [`score`] and [`score_lines`] where no threshold is given. It is the library's own default: a test holds the two together.
 pub const DEFAULT_THRESHOLD: f32 = 0.2;
 
 /// Bytes that [`score_lines`] takes in one call.
 pub const LONGEST_BURST: usize = 16_777_216;
 
+/// How many u32 [`score_lines_into`] puts into its output for each line.
+pub const NUMBERS_PER_LINE: usize = host::NUMBERS_PER_LINE;
+
 fn unless_refused<T>(number: u32, place: u32, told: T) -> Result<T, Refusal> {
-    if number == 0 { Ok(told) } else { Err(Refusal { number, place }) }
+    if number == 0 { Ok(told) } else { Err(Refusal::new(number, place)) }
 }
 
 fn accepted(told: host::HostRead) -> Result<usize, Refusal> {
@@ -133,13 +136,19 @@ fn accepted(told: host::HostRead) -> Result<usize, Refusal> {
 /// assert_eq!((told.sum, told.fed, told.stopped), (4.0, 2, false));
 /// assert_eq!(score("\u{416}", None, &tables).unwrap_err().to_string(),
 ///     "refusal 6: the code point at index 0 of the text, or in a ranking its lower case, is in no record of the class table");
-/// assert_eq!(score(&['a'][..], Some(f32::NAN), &tables).unwrap_err().number, 4);
+/// assert_eq!(score(&['a'], Some(f32::NAN), &tables).unwrap_err().number, drasumira::Refusal::NOT_FINITE);
 /// # Ok::<(), drasumira::Refusal>(())
 /// ```
+///
+/// # Errors
+///
+/// [`Refusal::TOO_LONG`], [`Refusal::ILL_FORMED`] for bytes that are not UTF-8, [`Refusal::NOT_FINITE`] for the threshold, and
+/// [`Refusal::UNCLASSED`] for a character that is in no record, also behind the place of stopping.
 pub fn score<'a>(text: impl Into<Text<'a>>, threshold: Option<f32>, tables: &Tables) -> Result<Score, Refusal> {
+    let threshold = threshold.unwrap_or(DEFAULT_THRESHOLD);
     let told = match text.into() {
         Text::Bytes(bytes) => host::score_utf8(bytes, threshold, &tables.classes, &tables.pairs),
-        Text::Chars(chars) => host::score(chars, threshold, &tables.classes, &tables.pairs),
+        Text::Chars(chars) => host::score(host::points_of(chars), threshold, &tables.classes, &tables.pairs),
     };
     scored(told)
 }
@@ -168,25 +177,61 @@ fn count_lines(bytes: &[u8]) -> usize {
 }
 
 /// The score of each line, of a `&str` or of bytes: what [`score`] answers for the line alone, with one check of the tables for all. A line
-/// ends at U+000A, which is no part of it; a last line without one counts; no bytes are no lines. A refused line is told in its place. The
-/// whole call is refused as 1 over [`LONGEST_BURST`] bytes, and as 4 where the threshold is not finite.
+/// ends at U+000A, which is no part of it; a last line without one counts; no bytes are no lines. A refused line is told in its place.
+///
+/// It makes 52 bytes a line for the library's output, and the list of answers beside it; of bytes that are newlines alone that is some hundred
+/// times their size. [`score_lines_into`] makes nothing.
 ///
 /// ```
 /// use drasumira::{Refusal, Tables, score_lines};
 /// let told = score_lines(b"plain\n\xFF\n\x01\x01", None, &Tables::builtin_only())?;
 /// assert_eq!(told.len(), 3);
-/// assert_eq!(told[1], Err(Refusal { number: 2, place: 0 }));
+/// assert_eq!(told[1], Err(Refusal::new(Refusal::ILL_FORMED, 0)));
 /// assert!(told[0]?.sum < told[2]?.sum);
 /// # Ok::<(), drasumira::Refusal>(())
 /// ```
+///
+/// # Errors
+///
+/// Of the whole call: [`Refusal::TOO_LONG`] over [`LONGEST_BURST`] bytes, [`Refusal::NOT_FINITE`] for the threshold.
 pub fn score_lines(lines: impl AsRef<[u8]>, threshold: Option<f32>, tables: &Tables) -> Result<Vec<Result<Score, Refusal>>, Refusal> {
     let bytes = lines.as_ref();
     // bytes that are refused need no room
-    let room = if bytes.len() > LONGEST_BURST { 0 } else { host::NUMBERS_PER_LINE * count_lines(bytes) };
+    let room = if bytes.len() > LONGEST_BURST { 0 } else { NUMBERS_PER_LINE * count_lines(bytes) };
     let mut out = vec![0; room];
+    score_lines_into(bytes, threshold, tables, &mut out)?;
+    let rows = out.chunks_exact(NUMBERS_PER_LINE).map(|row| row.try_into().expect("a whole row"));
+    Ok(rows.map(score_in).collect())
+}
+
+/// The same into the first places of `out`, [`NUMBERS_PER_LINE`] a line, which [`score_in`] reads; answers the number of lines. The rest of `out`
+/// stays, and all of it in a refusal.
+///
+/// ```
+/// use drasumira::{NUMBERS_PER_LINE, Tables, score_in, score_lines_into};
+/// let mut out = [0; 2 * NUMBERS_PER_LINE];
+/// let tables = Tables::builtin_only();
+/// assert_eq!(score_lines_into("plain\n\u{1}", None, &tables, &mut out), Ok(2));
+/// let second: &[u32; NUMBERS_PER_LINE] = out[NUMBERS_PER_LINE..].try_into().unwrap();
+/// assert_eq!(score_in(second)?.sum, 4.0);
+/// # Ok::<(), drasumira::Refusal>(())
+/// ```
+///
+/// # Errors
+///
+/// As [`score_lines`], and [`Refusal::NO_ROOM`] where `out` is too short.
+pub fn score_lines_into(lines: impl AsRef<[u8]>, threshold: Option<f32>, tables: &Tables, out: &mut [u32]) -> Result<usize, Refusal> {
     let threshold = threshold.unwrap_or(DEFAULT_THRESHOLD);
-    accepted(host::score_lines(bytes, threshold, &tables.classes, &tables.pairs, &mut out))?;
-    Ok(out.chunks_exact(host::NUMBERS_PER_LINE).map(|row| scored(host::told_in(row))).collect())
+    accepted(host::score_lines(lines.as_ref(), threshold, &tables.classes, &tables.pairs, out))
+}
+
+/// What a row of [`score_lines_into`] holds: the score of its line, or the line's refusal.
+///
+/// # Errors
+///
+/// The line's refusal: as [`score`]'s of bytes.
+pub fn score_in(row: &[u32; NUMBERS_PER_LINE]) -> Result<Score, Refusal> {
+    scored(host::told_in(row))
 }
 
 /// Reads UTF-8 into the first places of `out`, one code point each, and answers how many; the rest of `out` stays, and all of it in a refusal.
@@ -195,64 +240,12 @@ pub fn score_lines(lines: impl AsRef<[u8]>, threshold: Option<f32>, tables: &Tab
 /// let mut out = [0; 4];
 /// assert_eq!(drasumira::read("aé".as_bytes(), &mut out), Ok(2));
 /// assert_eq!(out, [0x61, 0xE9, 0, 0]);
-/// assert_eq!(drasumira::read(b"a\xFF", &mut out), Err(drasumira::Refusal { number: 2, place: 1 }));
+/// assert_eq!(drasumira::read(b"a\xFF", &mut out), Err(drasumira::Refusal::new(drasumira::Refusal::ILL_FORMED, 1)));
 /// ```
+///
+/// # Errors
+///
+/// [`Refusal::TOO_LONG`], [`Refusal::ILL_FORMED`], [`Refusal::NO_ROOM`].
 pub fn read(bytes: &[u8], out: &mut [u32]) -> Result<usize, Refusal> {
     accepted(host::read(bytes, out))
-}
-
-/// One of two texts.
-#[derive(Clone, Copy, Debug, PartialEq, Eq, Hash)]
-pub enum Which {
-    First,
-    Second,
-}
-
-/// The refusal of one of two texts; the first is checked first.
-#[derive(Clone, Copy, Debug, PartialEq, Eq, Hash)]
-pub struct RefusedText {
-    pub which: Which,
-    pub refusal: Refusal,
-}
-
-impl std::fmt::Display for RefusedText {
-    fn fmt(&self, f: &mut std::fmt::Formatter<'_>) -> std::fmt::Result {
-        let which = if self.which == Which::First { "first" } else { "second" };
-        write!(f, "of the {which} text: {}", self.refusal)
-    }
-}
-
-impl std::error::Error for RefusedText {}
-
-/// Which of two texts is the more readable: each is scored whole, the lower score is taken, and equal scores take the first.
-///
-/// ```
-/// use drasumira::{Tables, Which, verdict};
-/// let (noise, plain): (Vec<char>, Vec<char>) = ("\u{1}\u{2}".chars().collect(), "plain".chars().collect());
-/// assert_eq!(verdict(&noise, &plain, &Tables::full()), Ok(Which::Second));
-/// assert_eq!(verdict(&plain, &plain, &Tables::full()), Ok(Which::First));
-/// ```
-pub fn verdict(first: &[char], second: &[char], tables: &Tables) -> Result<Which, RefusedText> {
-    let told = host::verdict(first, second, &tables.classes, &tables.pairs);
-    let refusal = Refusal { number: told.number, place: told.place };
-    match (told.taken, told.refused) {
-        (1, _) => Ok(Which::First),
-        (2, _) => Ok(Which::Second),
-        (_, 1) => Err(RefusedText { which: Which::First, refusal }),
-        _ => Err(RefusedText { which: Which::Second, refusal }),
-    }
-}
-
-/// The more readable of two texts, without the newlines at its end; an empty part of the first where either is refused.
-/// Which text, and how many of its characters, is the library's word.
-///
-/// ```
-/// use drasumira::{Tables, choose};
-/// let (noise, plain): (Vec<char>, Vec<char>) = ("\u{1}\u{2}".chars().collect(), "plain\n\n".chars().collect());
-/// assert_eq!(choose(&noise, &plain, &Tables::full()).iter().collect::<String>(), "plain");
-/// ```
-pub fn choose<'a>(first: &'a [char], second: &'a [char], tables: &Tables) -> &'a [char] {
-    let told = host::choose(first, second, &tables.classes, &tables.pairs);
-    let taken = if told.taken == 2 { second } else { first };
-    &taken[..told.length as usize]
 }

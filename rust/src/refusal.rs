@@ -1,15 +1,46 @@
 use std::fmt;
 
-/// Why a call refused its input: the number of the cause and its place, 0 where the cause has none.
+/// Why a call refused its input: the number of the cause and its place, 0 where the cause has none. The numbers have names:
+/// [`Refusal::TOO_LONG`] and its fellows.
 ///
 /// ```
-/// let refusal = drasumira::Refusal { number: 2, place: 7 };
+/// use drasumira::Refusal;
+/// let refusal = Refusal::new(Refusal::ILL_FORMED, 7);
 /// assert_eq!(refusal.to_string(), "refusal 2: the bytes are not UTF-8; the bad sequence begins at byte 7");
 /// ```
 #[derive(Clone, Copy, Debug, PartialEq, Eq, Hash)]
+#[non_exhaustive]
 pub struct Refusal {
+    /// Which cause: one of the constants below. Later versions may know more.
     pub number: u32,
+    /// Where it lies: what the constant says, 0 where it says nothing.
     pub place: u32,
+}
+
+impl Refusal {
+    /// Over 262,144 bytes or 65,536 code points; in a ranking over 8,192 code points; many lines over 16,777,216 bytes.
+    pub const TOO_LONG: u32 = 1;
+    /// Bytes that are not UTF-8. The place is the first byte of the bad sequence.
+    pub const ILL_FORMED: u32 = 2;
+    /// A lent output or work area is too short.
+    pub const NO_ROOM: u32 = 3;
+    /// The threshold is no finite number.
+    pub const NOT_FINITE: u32 = 4;
+    /// The class table is not good. The place is the first bad record, or 0 for its length or number.
+    pub const BAD_CLASSES: u32 = 5;
+    /// A code point is in no record. The place is its index in the text.
+    pub const UNCLASSED: u32 = 6;
+    /// The pair table is not 32,768 bytes.
+    pub const BAD_PAIRS: u32 = 7;
+    /// The language table is not good. The place is as for [`Refusal::BAD_CLASSES`].
+    pub const BAD_LANGUAGES: u32 = 8;
+    /// Over 64 included numbers, place 0, or one that is not in the table, place its index.
+    pub const BAD_INCLUDED: u32 = 9;
+
+    /// A refusal of this number and place.
+    pub const fn new(number: u32, place: u32) -> Refusal {
+        Refusal { number, place }
+    }
 }
 
 impl fmt::Display for Refusal {
@@ -17,25 +48,32 @@ impl fmt::Display for Refusal {
         let place = self.place;
         write!(f, "refusal {}: ", self.number)?;
         match self.number {
-            1 => write!(
+            Refusal::TOO_LONG => write!(
                 f,
                 "the text is over 262,144 bytes or 65,536 code points, in a ranking over 8,192 code points, or many lines are over 16,777,216 bytes"
             ),
-            2 => write!(f, "the bytes are not UTF-8; the bad sequence begins at byte {place}"),
-            3 => write!(f, "a lent output or work area is too short"),
-            4 => write!(f, "the threshold is not a finite number"),
-            5 if place == 0 => write!(f, "the class table is not good: its length, its number of records, or record 0"),
-            5 => write!(f, "the class table is not good: record {place}, counted from 0, is the first bad one"),
-            6 => {
+            Refusal::ILL_FORMED => write!(f, "the bytes are not UTF-8; the bad sequence begins at byte {place}"),
+            Refusal::NO_ROOM => write!(f, "a lent output or work area is too short"),
+            Refusal::NOT_FINITE => write!(f, "the threshold is not a finite number"),
+            Refusal::BAD_CLASSES => bad_table(f, "class", place),
+            Refusal::UNCLASSED => {
                 write!(f, "the code point at index {place} of the text, or in a ranking its lower case, is in no record of the class table")
             }
-            7 => write!(f, "the pair table is not 32,768 bytes"),
-            8 if place == 0 => write!(f, "the language table is not good: its length, its number of records, or record 0"),
-            8 => write!(f, "the language table is not good: record {place}, counted from 0, is the first bad one"),
-            9 if place == 0 => write!(f, "over 64 numbers are included, or the one at index 0 is in no record of the language table"),
-            9 => write!(f, "the included number at index {place} is in no record of the language table"),
+            Refusal::BAD_PAIRS => write!(f, "the pair table is not 32,768 bytes"),
+            Refusal::BAD_LANGUAGES => bad_table(f, "language", place),
+            Refusal::BAD_INCLUDED if place == 0 => {
+                write!(f, "over 64 numbers are included, or the one at index 0 is in no record of the language table")
+            }
+            Refusal::BAD_INCLUDED => write!(f, "the included number at index {place} is in no record of the language table"),
             _ => write!(f, "place {place}"),
         }
+    }
+}
+
+fn bad_table(f: &mut fmt::Formatter<'_>, table: &str, place: u32) -> fmt::Result {
+    match place {
+        0 => write!(f, "the {table} table is not good: its length, its number of records, or record 0"),
+        _ => write!(f, "the {table} table is not good: record {place}, counted from 0, is the first bad one"),
     }
 }
 

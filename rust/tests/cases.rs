@@ -1,12 +1,15 @@
 // What 01 marks of the whole scan, the refusals in their order, and that nothing lent is changed.
-use drasumira::{LONGEST_BURST, Refusal, RefusedText, Tables, Which, choose, read, score, score_lines, verdict};
+use drasumira::{
+    LONGEST_BURST, NUMBERS_PER_LINE, Refusal, RefusedText, Tables, Which, choose, read, score, score_in, score_lines, score_lines_into,
+    verdict,
+};
 
 fn chars(text: &str) -> Vec<char> {
     text.chars().collect()
 }
 
 fn refusal(number: u32, place: u32) -> Refusal {
-    Refusal { number, place }
+    Refusal::new(number, place)
 }
 
 #[test]
@@ -70,6 +73,18 @@ fn lines() {
 }
 
 #[test]
+fn lines_into_what_is_lent() {
+    let tables = Tables::builtin_only();
+    let mut out = [7; 3 * NUMBERS_PER_LINE];
+    assert_eq!(score_lines_into("a\nb\nc\nd", None, &tables, &mut out), Err(refusal(3, 0)));
+    assert_eq!(out, [7; 3 * NUMBERS_PER_LINE]);
+    assert_eq!(score_lines_into("\u{1}\nЖ", None, &tables, &mut out), Ok(2));
+    let rows: Vec<&[u32; NUMBERS_PER_LINE]> = out.chunks_exact(NUMBERS_PER_LINE).map(|row| row.try_into().unwrap()).collect();
+    assert_eq!((score_in(rows[0]), score_in(rows[1])), (score("\u{1}", None, &tables), Err(refusal(6, 0))));
+    assert_eq!(rows[2], &[7; NUMBERS_PER_LINE]);
+}
+
+#[test]
 fn lines_as_alone() {
     let tables = Tables::full();
     let all = "Voix ambiguë d'un cœur\n\nСъешь же ещё этих мягких\n\u{1}\u{FFFD}日本語\nplain plain plain plain plain plain plain";
@@ -93,16 +108,46 @@ fn a_burst_refused() {
 fn the_chooser() {
     let tables = Tables::builtin_only();
     let (plain, noise, foreign) = (chars("plain\n\n"), chars("\u{1}\u{2}\n"), chars("Ж"));
-    assert_eq!(choose(&noise, &plain, &tables), &plain[..5]);
-    assert_eq!(choose(&chars("\n\n"), &noise, &tables), &[]);
+    assert_eq!(choose(&noise[..], &plain[..], &tables), &plain[..5]);
+    assert_eq!(choose(&chars("\n\n")[..], &noise[..], &tables), &[]);
     assert_eq!(verdict(&plain, &plain, &tables), Ok(Which::First));
-    let second = RefusedText { which: Which::Second, refusal: refusal(6, 0) };
+    let second = RefusedText::new(Which::Second, refusal(6, 0));
     assert_eq!(verdict(&plain, &foreign, &tables), Err(second));
     assert_eq!(
         second.to_string(),
         "of the second text: refusal 6: the code point at index 0 of the text, or in a ranking its lower case, is in no record of the class table"
     );
-    assert!(choose(&plain, &foreign, &tables).is_empty());
+    assert!(choose(&plain[..], &foreign[..], &tables).is_empty());
+    assert_eq!(std::error::Error::source(&second).unwrap().to_string(), refusal(6, 0).to_string());
+}
+
+#[test]
+fn the_chooser_of_str_bytes_and_chars() {
+    let tables = Tables::full();
+    let texts = ["", "\n", "plain\n\n", "\u{1}\u{2}\n", "Съешь же ещё\n", "日本語\n\n\n", "é\nè"];
+    for (first, second) in texts.iter().flat_map(|a| texts.iter().map(move |b| (*a, *b))) {
+        let (a, b) = (chars(first), chars(second));
+        assert_eq!(verdict(first, second, &tables), verdict(&a, &b, &tables));
+        assert_eq!(verdict(first.as_bytes(), &b, &tables), verdict(&a, second, &tables));
+        let part = choose(first, second, &tables);
+        assert_eq!(choose(first.as_bytes(), second.as_bytes(), &tables), part.as_bytes());
+        assert_eq!(choose(&a[..], &b[..], &tables).iter().collect::<String>(), part);
+    }
+}
+
+#[test]
+fn refusals_of_two_texts() {
+    let tables = Tables::builtin_only();
+    let of = |which, number, place| Err(RefusedText::new(which, refusal(number, place)));
+    assert_eq!(verdict(b"a\xFF", "Ж", &tables), of(Which::First, 2, 1));
+    assert_eq!(verdict("aЖ", b"\xFF", &tables), of(Which::First, 6, 1));
+    assert_eq!(verdict("a", b"\xFF", &tables), of(Which::Second, 2, 0));
+    assert_eq!(verdict("a", vec![b'a'; 262_145].as_slice(), &tables), of(Which::Second, 1, 0));
+    assert_eq!(verdict("a", &vec!['a'; 65_537], &tables), of(Which::Second, 1, 0));
+    let (bad, good) = (&b"a\xFF"[..], &b"good\n"[..]);
+    assert_eq!((choose(bad, good, &tables), choose(good, bad, &tables)), (&b""[..], &b""[..]));
+    assert_eq!(choose(bad, good, &tables).as_ptr(), bad.as_ptr());
+    assert_eq!(choose(good, bad, &tables).as_ptr(), good.as_ptr());
 }
 
 #[test]
@@ -122,6 +167,6 @@ fn the_cut_is_what_01_says() {
     for text in ["", "\n", "a", "a\n", "\na\n\n", "a\nb", "a \n", "\r\n"] {
         let text = chars(text);
         let expected = text.iter().collect::<String>();
-        assert_eq!(choose(&text, &text, &tables).iter().collect::<String>(), expected.trim_end_matches('\n'));
+        assert_eq!(choose(&text[..], &text[..], &tables).iter().collect::<String>(), expected.trim_end_matches('\n'));
     }
 }

@@ -14,7 +14,7 @@ fn bits(found: &[CoherenceMatch]) -> Vec<(u32, u32)> {
 }
 
 fn refusal(number: u32, place: u32) -> Refusal {
-    Refusal { number, place }
+    Refusal::new(number, place)
 }
 
 // A record of these letters.
@@ -43,7 +43,7 @@ fn thresholds_and_included_numbers() {
     assert_eq!(found[2].score.to_bits(), 0); // no letter of Russian
     let best = found[0].score;
     assert_eq!(ranked(ENGLISH, Some(best), &[1]).unwrap().len(), 1);
-    assert!(ranked(ENGLISH, Some(best.next_up()), &[1]).unwrap().is_empty());
+    assert!(ranked(ENGLISH, Some(f32::from_bits(best.to_bits() + 1)), &[1]).unwrap().is_empty());
     assert!(ranked(ENGLISH, Some(2.0), &[]).unwrap().is_empty());
     assert!(ranked(GREEK, None, &[0]).unwrap().is_empty());
     assert_eq!(language_name(ranked(GREEK, None, &[]).unwrap()[0].language), Some("Greek"));
@@ -67,6 +67,8 @@ fn refusals_in_their_order() {
     assert_eq!(ranked(&long, Some(f32::NAN), &[99]), Err(refusal(1, 0)));
     assert!(ranked(&long[1..], None, &[]).is_ok());
     assert_eq!(ranked("a".repeat(65_537).as_str(), None, &[]), Err(refusal(1, 0)));
+    assert_eq!(ranked("a".repeat(262_145).as_str(), None, &[]), Err(refusal(1, 0)));
+    assert_eq!(coherence(&vec!['a'; 8_193], Some(f32::NAN), 0, &few, &none, &[1]), Err(refusal(1, 0)));
     assert_eq!(coherence("Ж", Some(f32::INFINITY), 0, &few, &none, &[1]), Err(refusal(4, 0)));
     assert_eq!(coherence("Ж", None, 0, &few, &none, &[1]), Err(refusal(9, 0)));
     assert_eq!(coherence("aЖ", None, 0, &few, &none, &[0]), Err(refusal(6, 1)));

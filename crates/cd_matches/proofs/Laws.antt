@@ -1,3 +1,4 @@
+pub mod AsRounded
 pub mod Finding
 pub mod Keys
 pub mod Lists

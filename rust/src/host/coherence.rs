@@ -1,5 +1,6 @@
 // The ranking's two entries by the C ABI: each slice crosses as pointer and length, and the answer of 12 bytes comes back by value.
 use crate::CoherenceMatch;
+use std::mem::offset_of;
 
 #[repr(C)]
 #[derive(Clone, Copy, Default)]
@@ -11,6 +12,7 @@ pub struct HostRanking {
 
 // The layouts that the library reads and writes.
 const _: () = assert!(size_of::<HostRanking>() == 12 && size_of::<CoherenceMatch>() == 8);
+const _: () = assert!(offset_of!(CoherenceMatch, language) == 0 && offset_of!(CoherenceMatch, score) == 4);
 
 #[rustfmt::skip]
 unsafe extern "C" {
@@ -37,6 +39,8 @@ pub struct Question<'a> {
 pub fn coherence(q: &Question, work: &mut [u32], matches: &mut [CoherenceMatch]) -> HostRanking {
     let (t, c, p, l, i) = (q.text, q.classes, q.pairs, q.languages, q.included);
     let (w, wn, m, mn) = (work.as_mut_ptr(), work.len(), matches.as_mut_ptr(), matches.len());
+    // SAFETY: as in host.rs: pointer and length are those of one Rust slice each, work and matches are `&mut` and overlap nothing else, every
+    // value of CoherenceMatch's two members is one, and the entries are declared as crates/host/src/lib.rt has them.
     unsafe {
         match q.threshold {
             Some(threshold) => drasumira_coherence(t.as_ptr(), t.len(), threshold, q.small, c.as_ptr(), c.len(), p.as_ptr(), p.len(),

@@ -1,0 +1,5 @@
+pub mod Lists
+pub mod Page
+pub mod Tables
+pub mod Answer
+pub mod RoundTrips

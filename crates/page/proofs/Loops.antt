@@ -1,0 +1,4 @@
+pub mod Laying
+pub mod Inverting
+pub mod Copying
+pub mod Marking
