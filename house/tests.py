@@ -1,5 +1,5 @@
 #!/usr/bin/env python3
-"""Whether house/definitions.py and promises.py notice what they are there for: each fault is put into a copy of the tree, and must be found."""
+"""Whether house/definitions.py, promises.py and habits.py notice what they are there for: each fault is put into a copy of the tree, and must be found."""
 import shutil
 import subprocess
 import sys
@@ -81,6 +81,18 @@ def definition_in_a_round(tree):
     path.write_text(path.read_text(encoding="utf-8") + "\nwrong: again: Again.\nrefused: is_set at returns\nfile: specs/First.antt\nold: first f n = seek f n 0\nnew: first f n = seek f n 1\n", encoding="utf-8")
 
 
+def long_line(tree):
+    changed(tree / "crates/base/proofs/Laws/Put.antt", "-- Laws of `put`: ", "-- Laws of `put`: " + "its length, " * 20)
+
+
+def path_without_name(tree):
+    changed(tree / "crates/base/proofs/is_set/Proof.antt", "returns c = ", "returns c = c" + " .before" * 8 + " .")
+
+
+def name_of_another(tree):
+    changed(tree / "crates/md/src/lib.rt", "pub fn unscored(", "pub fn refuse(")
+
+
 FAULTS = [
     ("definitions.py", law_among_definitions),
     ("definitions.py", believed_word_inside),
@@ -95,6 +107,9 @@ FAULTS = [
     ("promises.py", refused_elsewhere),
     ("promises.py", function_twice_in_a_round),
     ("promises.py", definition_in_a_round),
+    ("habits.py", long_line),
+    ("habits.py", path_without_name),
+    ("habits.py", name_of_another),
 ]
 
 
@@ -105,7 +120,7 @@ def run(tree, script):
 def main():
     missed = []
     with tempfile.TemporaryDirectory() as room:
-        for number, (script, fault) in enumerate([("definitions.py", None), ("promises.py", None)] + FAULTS):
+        for number, (script, fault) in enumerate([("definitions.py", None), ("promises.py", None), ("habits.py", None)] + FAULTS):
             tree = Path(room) / str(number)
             for part in ("crates", "docs", "house"):
                 shutil.copytree(ROOT / part, tree / part, ignore=shutil.ignore_patterns("stdin", "stdout", "__pycache__"))

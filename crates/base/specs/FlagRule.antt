@@ -4,7 +4,8 @@
 use Prim.Native.Nat.{ℕ, _+_}
 use mathlib.Core.Bool.{Bool, not, _&&_, _||_}
 use lib.Dec.{leb, ltb}
-use Rattle.base.specs.Flags.{has, WHITESPACE, UNPRINTABLE, EMOTICON, COMMON-SAFE, WEIRD-SAFE, SEPARATOR, LATIN, ALPHABETIC, CJK, HANGUL, KATAKANA, HIRAGANA, THAI, CASE-VARIABLE, LOWERCASE, UPPERCASE, NUMERIC, FLAGS-END}
+use Rattle.base.specs.Flags.{has, WHITESPACE, UNPRINTABLE, EMOTICON, COMMON-SAFE, WEIRD-SAFE, SEPARATOR, LATIN, ALPHABETIC, CJK, HANGUL}
+use Rattle.base.specs.Flags.{KATAKANA, HIRAGANA, THAI, CASE-VARIABLE, LOWERCASE, UPPERCASE, NUMERIC, FLAGS-END}
 use Rattle.base.specs.Numbers.{bump}
 use Rattle.base.specs.Tests.{implies, same}
 

@@ -9,7 +9,7 @@ ghost use Rattle.base.specs.Counted.{countUnless};
 ghost use Rattle.base.specs.Inner.Counted.{causeOf};
 ghost use Rattle.base.specs.Flags.{has};
 ghost use Rattle.base.specs.Inner.LittleEndian.{Word};
-ghost use Rattle.base.specs.Inner.Numbers.{One, Picked};
+ghost use Rattle.base.specs.Inner.Numbers.{One, Picked, Wide};
 
 pub mod flags;
 pub mod limits;
@@ -89,8 +89,9 @@ pub fn pick(b: bool, x: u32, y: u32) -> u32
     if b { x } else { y }
 }
 
-fn wide(b: u8) -> u32
-    ensures { λ r. ⌜ (r ≡ b) × (r < 256) ⌝ }
+// A byte as a number that can be shifted up.
+pub fn wide(b: u8) -> u32
+    ensures { λ r. ⌜ Wide b r ⌝ }
 {
     b as u32
 }

@@ -1,12 +1,12 @@
 -- The lent language table (01, "Tables"): its records, when one is good, when the table is good, the first bad record, and the first record with a
 -- number. Not the letters as a list (Letters), nor the refusal of a table that is not good (Check).
 -- Assumes nothing.
-use Prim.Native.Nat.{ℕ, zero, suc, _+_, _*_, _/_}
+use Prim.Native.Nat.{ℕ, _+_, _*_, _/_}
 use mathlib.Core.List.{List}
-use mathlib.Core.Bool.{Bool, true, cond, not, _&&_}
+use mathlib.Core.Bool.{Bool, cond, not, _&&_}
 use lib.ListN.{length}
 use lib.Dec.{leb, ltb, eqb}
-use Rattle.base.specs.First.{first}
+use Rattle.base.specs.First.{first, each}
 use Rattle.base.specs.Flags.{has}
 use Rattle.base.specs.Limits.{LANGUAGE-RECORD, LANGUAGE-LETTERS, MOST-MARKS}
 use Rattle.base.specs.Tests.{scalar, within}
@@ -55,11 +55,6 @@ hasAccents t i = has (marksOf t i) ACCENTS
 
 unfoldable pub pureLatin : List ℕ → ℕ → Bool
 pureLatin t i = has (marksOf t i) PURE-LATIN
-
--- whether a test holds at every index below n
-unfoldable pub each : (ℕ → Bool) → ℕ → Bool
-each g zero = true
-each g (suc n) = each g n && g n
 
 -- "used letters scalar values, unused slots 0": the slots below the count are used
 unfoldable pub goodSlot : Bool → ℕ → Bool

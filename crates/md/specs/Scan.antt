@@ -19,7 +19,7 @@ use Rattle.classes.specs.Lookup.{classOf, missing}
 use Rattle.classes.specs.Pairs.{suspicious}
 use Rattle.md_eight.specs.declared.Detectors.{Detectors}
 use Rattle.md_eight.specs.Detectors.{start, feed, ratios, lastRange}
-use Rattle.ratio.specs.Rounded.{sum}
+use Rattle.ratio.specs.Eight.{sum}
 use Rattle.md.specs.declared.Limit.{Limit}
 use Rattle.md.specs.declared.Limit.the-variants.{Threshold, Never}
 use Rattle.md.specs.declared.Scored.{Scored}

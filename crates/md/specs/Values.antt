@@ -7,7 +7,8 @@ use mathlib.Core.Bool.{Bool, false}
 use lib.Ieee.{Float}
 use Rattle.base.specs.Refusals.{ACCEPTED}
 use Rattle.ratio.specs.declared.Ratios.{Ratios}
-use Rattle.ratio.specs.Rounded.{ZERO, noRatios}
+use Rattle.ratio.specs.Rounded.{ZERO}
+use Rattle.ratio.specs.Eight.{noRatios}
 use Rattle.md.specs.declared.Scored.{Scored}
 use Rattle.md.specs.declared.Scored.the-variants.{Score, Refused}
 

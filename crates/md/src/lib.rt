@@ -37,7 +37,7 @@ pub enum Scored {
     Refused(Refusal),
 }
 
-pub fn refuse(number: u32, place: u32) -> Scored
+pub fn unscored(number: u32, place: u32) -> Scored
     ensures { λ r. ⌜ r ≡ refused number place ⌝ }
 {
     Scored::Refused(Refusal {
@@ -51,7 +51,7 @@ pub fn mess_ratio(text: &[u32], threshold: f32, classes: &[u8], pairs: &[u8]) ->
     ensures { λ r. ⌜ r ≡ messRatio (now (text .entry)) threshold (now (classes .entry)) (now (pairs .entry)) ⌝ }
 {
     if text.len() > LONGEST_TEXT {
-        return refuse(TOO_LONG, 0);
+        return unscored(TOO_LONG, 0);
     }
     match check_lent(threshold, classes, pairs) {
         Cause::Refused(why) => Scored::Refused(why),
@@ -71,7 +71,7 @@ pub fn whole_score(text: &[u32], classes: &[u8], pairs: &[u8]) -> Scored
     ensures { λ r. ⌜ r ≡ wholeScore (now (text .entry)) (now (classes .entry)) (now (pairs .entry)) ⌝ }
 {
     if text.len() > LONGEST_TEXT {
-        return refuse(TOO_LONG, 0);
+        return unscored(TOO_LONG, 0);
     }
     match check_tables(classes, pairs) {
         Cause::Refused(why) => Scored::Refused(why),

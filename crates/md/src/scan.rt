@@ -18,9 +18,9 @@ ghost use Rattle.md.specs.Inner.Ready.{Ready};
 use crate::Limit;
 use crate::Score;
 use crate::Scored;
-use crate::refuse;
 use crate::text::at_checkpoint;
 use crate::text::char_at;
+use crate::unscored;
 use base::refusals::UNCLASSED;
 use class_builtin::Table;
 use classes::Class;
@@ -110,7 +110,7 @@ fn stopped_after(s: Detectors, text: &[u32], i: usize, table: &Table, classes: &
 {
     let bad = unclassed_from(text, i + 1, table, classes);
     if bad <= text.len() {
-        return refuse(UNCLASSED, bad as u32);
+        return unscored(UNCLASSED, bad as u32);
     }
     scored(s, (i + 1) as u32, true)
 }
@@ -131,7 +131,7 @@ pub fn scan_text_in(
     let mut i = 0;
     while i < n {
         let Found::At(c) = class_at(text, i, table, classes) else {
-            return refuse(UNCLASSED, i as u32);
+            return unscored(UNCLASSED, i as u32);
         };
         s = fed(s, c, pairs);
         if is_over(s, text.len(), i, limit) {

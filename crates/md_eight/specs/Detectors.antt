@@ -6,7 +6,7 @@ use mathlib.Core.Bool.{Bool}
 use Rattle.classes.specs.declared.Class.{Class}
 use Rattle.ratio.specs.declared.EightCounts.{EightCounts}
 use Rattle.ratio.specs.declared.Ratios.{Ratios}
-use Rattle.ratio.specs.Eight.{Fractions, fractionsOf}
+use Rattle.ratio.specs.Eight.{Fractions, fractionsOf, ratios as ratiosOf}
 use Rattle.md_eight.specs.declared.Detectors.{Detectors}
 use Rattle.md_counts.specs.TooManySymbolOrPunctuation as symbols
 use Rattle.md_counts.specs.TooManyAccentuated as accents
@@ -16,7 +16,6 @@ use Rattle.md_neighbours.specs.SuspiciousDuplicateAccent as doubled
 use Rattle.md_words.specs.SuperWeirdWord as words
 use Rattle.md_counts.specs.CjkInvalidStop as stops
 use Rattle.md_words.specs.ArchaicUpperLower as archaic
-use Rattle.ratio.specs.Rounded as rounded
 
 -- nothing was fed
 unfoldable pub start : Detectors
@@ -69,4 +68,4 @@ abbrev pub fractions : Detectors → Fractions
 fractions s = fractionsOf (counts s)
 
 abbrev pub ratios : Detectors → Ratios
-ratios s = rounded.ratios (fractions s)
+ratios s = ratiosOf (fractions s)

@@ -16,8 +16,8 @@ use Rattle.base.specs.Numbers.{bump}
 use Rattle.base.specs.Refusals.{TOO-LONG, NO-ROOM}
 use Rattle.classes.specs.Check.{badClasses}
 use Rattle.classes.specs.Pairs.{badPairs}
-use Rattle.ratio.specs.Eight.{DETECTORS}
-use Rattle.ratio.specs.Rounded.{bitsOf, bits}
+use Rattle.ratio.specs.Eight.{DETECTORS, bits}
+use Rattle.ratio.specs.Rounded.{bitsOf}
 use Rattle.md.specs.declared.Scored.{Scored}
 use Rattle.ratio.specs.Finite.{notFinite}
 use Rattle.md.specs.Values.{Values, values}

@@ -7,7 +7,7 @@ use base::refusals::TOO_LONG;
 use line::put_refused;
 use line::put_score;
 use md::Scored;
-use md::refuse;
+use md::unscored;
 use md_utf8::mess_ratio_utf8;
 
 mod line;
@@ -39,7 +39,7 @@ pub fn answer(bytes: &[u8]) -> Scored
     ensures { λ r. ⌜ r ≡ program.answer (now (bytes .entry)) ⌝ }
 {
     if bytes.len() > LONGEST_INPUT {
-        return refuse(TOO_LONG, 0);
+        return unscored(TOO_LONG, 0);
     }
     let classes: [u8; 0] = [];
     let pairs = no_pairs();

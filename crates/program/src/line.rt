@@ -47,7 +47,7 @@ fn hex(n: u32) -> [u8; 8]
 }
 
 // Puts a piece into out and answers where the next one goes.
-fn put(out: &mut [u8], at: usize, piece: &[u8]) -> usize
+fn put_piece(out: &mut [u8], at: usize, piece: &[u8]) -> usize
     requires { ⌜ at + length (now piece) ≤ length (now out) ⌝ }
     ensures { λ r. ⌜ Goes (now (out .entry)) (now (out .exit)) at (now (piece .entry)) r ⌝ }
 {
@@ -61,8 +61,8 @@ fn put_number(out: &mut [u8], at: usize, word: &[u8], n: u32) -> usize
 {
     let mut text = [0u8; LONGEST_DECIMAL];
     let k = io::decimal(n as u64, &mut text);
-    let behind = put(out, at, word);
-    put(out, behind, &text[..k])
+    let behind = put_piece(out, at, word);
+    put_piece(out, behind, &text[..k])
 }
 
 // The bits of a score's sum.
@@ -79,11 +79,11 @@ pub fn put_score(out: &mut [u8], score: Score) -> usize
     ensures { λ r. ⌜ Goes (now (out .entry)) (now (out .exit)) 0 (line (scored.Score score)) r ⌝ }
 {
     let digits = hex(bits_of(score));
-    let a = put(out, 0, b"score ");
-    let b = put(out, a, &digits);
+    let a = put_piece(out, 0, b"score ");
+    let b = put_piece(out, a, &digits);
     let c = put_number(out, b, b" fed ", score.fed);
     let d = put_number(out, c, b" stopped ", one(score.stopped));
-    put(out, d, b"\n")
+    put_piece(out, d, b"\n")
 }
 
 // The line of a refusal.
@@ -93,5 +93,5 @@ pub fn put_refused(out: &mut [u8], why: Refusal) -> usize
 {
     let a = put_number(out, 0, b"refused ", why.number);
     let b = put_number(out, a, b" at ", why.place);
-    put(out, b, b"\n")
+    put_piece(out, b, b"\n")
 }

@@ -4,7 +4,6 @@ pub mod CutOff
 pub mod CutOffs
 pub mod Demand
 pub mod DemandExample
-pub mod Eight
 pub mod Finite
 pub mod Fraction
 pub mod Grid

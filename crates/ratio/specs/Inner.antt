@@ -1,4 +1,3 @@
 pub mod Eight
 pub mod Finite
 pub mod Fraction
-pub mod Rounded

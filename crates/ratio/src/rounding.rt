@@ -2,9 +2,9 @@
 ghost use mathlib.Core.Path.{_≡_};
 ghost use Rattle.ratio.specs.Inner.Fraction.{Proper, Small};
 ghost use Rattle.ratio.specs.Fraction.{shareOf, fractionOf};
-ghost use Rattle.ratio.specs.Inner.Rounded.{EachSmall, EachPlain};
-ghost use Rattle.ratio.specs.Rounded.{rounded, ratios, noRatios, sum, bits};
-ghost use Rattle.ratio.specs.Eight.{fractionsOf};
+ghost use Rattle.ratio.specs.Inner.Eight.{EachSmall, EachPlain};
+ghost use Rattle.ratio.specs.Rounded.{rounded};
+ghost use Rattle.ratio.specs.Eight.{ratios, noRatios, sum, bits, fractionsOf};
 use super::Counts;
 use super::DETECTORS;
 use super::EightCounts;

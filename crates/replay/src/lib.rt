@@ -74,7 +74,7 @@ pub fn first_case(buf: &mut [u8]) -> Tally
 }
 
 // One case more was compared.
-pub fn counted(t: Tally, same: bool) -> Tally
+pub fn tallied(t: Tally, same: bool) -> Tally
     requires { ⌜ Sound t ⌝ }
     ensures { λ r. ⌜ Tallied t r ⌝ }
 {
@@ -96,7 +96,7 @@ pub fn next_case(buf: &mut [u8], t: Tally, same: bool) -> Tally
     requires { ⌜ Sound t × (0 < t .size) ⌝ }
     ensures { λ r. ⌜ Turned t r (now (buf .entry)) (now (buf .exit)) ⌝ }
 {
-    let c = counted(t, same);
+    let c = tallied(t, same);
     if c.cases >= MOST_CASES {
         return Tally {
             cases: c.cases,
@@ -119,6 +119,11 @@ pub fn least(a: usize, b: usize) -> usize
     ensures { λ r. ⌜ (r ≤ a) × (r ≤ b) ⌝ }
 {
     if a < b { a } else { b }
+}
+
+// The byte of buf at i; 0 where buf has ended.
+pub fn byte(buf: &[u8], i: usize) -> u8 {
+    if i < buf.len() { buf[i] } else { 0 }
 }
 
 // The k-th little-endian u32 of buf, counted from 0; 0 where buf has ended.

@@ -13,7 +13,6 @@ use cd::coherence_ratio;
 use cd_ranking::Ranking;
 use replay::Tally;
 use replay::WORD;
-use replay::counted;
 use replay::first_case;
 use replay::flip_bits;
 use replay::float_of;
@@ -21,6 +20,7 @@ use replay::least;
 use replay::next_case;
 use replay::no_cases;
 use replay::say;
+use replay::tallied;
 use replay::word;
 use replay::words;
 
@@ -239,7 +239,7 @@ fn replay_questions(
         if at > BLOCK_BYTES {
             return t;
         }
-        t = counted(t, same_question(buf, at, classes, pairs, languages));
+        t = tallied(t, same_question(buf, at, classes, pairs, languages));
         at = past_question(buf, at);
         k += 1;
     }

@@ -37,17 +37,17 @@ const ONE_BITS: u64 = 0x3FF0_0000_0000_0000;
 // What a one of the high word counts.
 const HIGH: u64 = 0x1_0000_0000;
 
-fn wide(x: u32) -> u64
+fn to_u64(x: u32) -> u64
     ensures { λ r. ⌜ r < 2 ^ 32 ⌝ }
 {
     x as u64
 }
 
 // The f64's bits that stand from the word `at` on, the low word first.
-fn long(buf: &[u8], at: usize) -> u64
+fn bits_at(buf: &[u8], at: usize) -> u64
     requires { ⌜ at ≤ FRONT ⌝ }
 {
-    wide(word(buf, at)) + HIGH * wide(word(buf, at + 1))
+    to_u64(word(buf, at)) + HIGH * to_u64(word(buf, at + 1))
 }
 
 // The f64 of these bits, if it is one that `nearest_f32` takes; 0 for any other.
@@ -73,7 +73,7 @@ fn nearest_bits(x: f64) -> u32
 }
 
 fn same_number(buf: &[u8]) -> bool {
-    nearest_bits(number_of(long(buf, 1))) == word(buf, 3)
+    nearest_bits(number_of(bits_at(buf, 1))) == word(buf, 3)
 }
 
 fn jaro_bits(layer: &[u32], language: &[u32]) -> u64
@@ -95,7 +95,7 @@ fn same_measure(buf: &[u8], layer: &[u32], language: &[u32]) -> bool
     let counts = matched(layer, language);
     (counts.matches == word(buf, 3) as usize)
         & (counts.transpositions == word(buf, 4) as usize)
-        & (jaro_bits(layer, language) == long(buf, 5))
+        & (jaro_bits(layer, language) == bits_at(buf, 5))
         & (similarity_bits(layer, language) == word(buf, 7))
 }
 

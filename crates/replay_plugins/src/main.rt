@@ -12,6 +12,7 @@ use ratio::Ratios;
 use ratio::rounding::bits;
 use ratio::rounding::sum;
 use replay::WORD;
+use replay::byte;
 use replay::first_case;
 use replay::next_case;
 use replay::same_words;
@@ -29,12 +30,8 @@ const PAIRS: usize = 4;
 // The longest case is shorter than this.
 const LONGEST_CASE: usize = 2048;
 
-fn byte(case: &[u8], at: usize) -> u8 {
-    if at < case.len() { case[at] } else { 0 }
-}
-
 // The letter at the place k of the alphabet.
-fn letter(case: &[u8], k: u8) -> Class {
+fn letter_class(case: &[u8], k: u8) -> Class {
     let at = HEAD + LETTER * (k as usize);
     Class {
         point: word(case, at),
@@ -52,7 +49,7 @@ fn suspicious(case: &[u8], k: u8, last: u32) -> bool {
 }
 
 // The detectors fed the text.
-fn fed(case: &[u8], text: &[u8]) -> Detectors
+fn fed_all(case: &[u8], text: &[u8]) -> Detectors
     requires { ⌜ length (now text) ≤ LARGEST ⌝ }
     ensures { λ r. ⌜ Countable r ⌝ }
 {
@@ -60,7 +57,7 @@ fn fed(case: &[u8], text: &[u8]) -> Detectors
     let mut i = 0;
     while i < text.len() {
         let k = text[i];
-        s = s.feed(letter(case, k), suspicious(case, k, s.last_range()));
+        s = s.feed(letter_class(case, k), suspicious(case, k, s.last_range()));
         i += 1;
     }
     s
@@ -93,7 +90,7 @@ fn same_case(case: &[u8]) -> bool
     if from > case.len() {
         return false;
     }
-    same_ratios(case, ratios_of(fed(case, &case[from..])))
+    same_ratios(case, ratios_of(fed_all(case, &case[from..])))
 }
 
 fn main() {

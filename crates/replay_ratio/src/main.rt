@@ -3,7 +3,7 @@
 ghost use Prim.Native.Nat.{_≤_};
 ghost use Rattle.ratio.specs.Inner.Fraction.{Small, Proper};
 ghost use Rattle.ratio.specs.Fraction.{shareOf};
-ghost use Rattle.ratio.specs.Inner.Rounded.{EachSmall};
+ghost use Rattle.ratio.specs.Inner.Eight.{EachSmall};
 ghost use Rattle.replay.specs.Inner.Sizes.{FRONT};
 use base::one;
 use ratio::Counts;

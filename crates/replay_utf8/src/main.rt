@@ -6,6 +6,7 @@ use base::Counted;
 use base::limits::LONGEST_BYTES;
 use base::limits::LONGEST_TEXT;
 use replay::WORD;
+use replay::byte;
 use replay::first_case;
 use replay::least;
 use replay::next_case;
@@ -52,10 +53,6 @@ fn small(case: &[u8], k: usize) -> usize
     ensures { λ r. ⌜ r < SMALL ⌝ }
 {
     word(case, k) as usize % SMALL
-}
-
-fn byte(case: &[u8], i: usize) -> u8 {
-    if i < case.len() { case[i] } else { 0 }
 }
 
 // The i-th byte of the input: the unit over and over, then the tail.

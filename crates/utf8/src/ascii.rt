@@ -1,5 +1,5 @@
 // Runs of ASCII bytes, passed eight at a time, and their copy as code points.
-use utf8_table::wide;
+use base::wide;
 ghost use mathlib.Core.Path.{_≡_};
 ghost use Prim.Native.Nat.{_+_, _≤_};
 ghost use lib.ListN.{length};

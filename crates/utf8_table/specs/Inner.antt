@@ -1,2 +1,1 @@
 pub mod ByLead
-pub mod WellFormed

@@ -1,20 +1,13 @@
 // One sequence of UTF-8: whether a well-formed one stands at a place, and its code point, by the first byte (the Unicode Standard, Tables
 // 3-6 and 3-7). The reader in utf8 goes from sequence to sequence.
 use base::pick;
+use base::wide;
 ghost use mathlib.Core.Path.{_≡_};
 ghost use Prim.Native.Nat.{_+_, _≤_, _<_};
 ghost use lib.ListN.{length};
 ghost use Rattle.base.specs.Tests.{within};
-ghost use Rattle.utf8_table.specs.Inner.WellFormed.{Wide};
 ghost use Rattle.utf8_table.specs.WellFormed.{byteAt, pointOfTwo, pointOfThree, pointOfFour};
 ghost use Rattle.utf8_table.specs.Inner.ByLead.{leadsTwo, leadsThree, leadsFour};
-
-// A byte as a number that can be shifted up.
-pub fn wide(b: u8) -> u32
-    ensures { λ r. ⌜ Wide b r ⌝ }
-{
-    b as u32
-}
 
 // Whether b lies in lo..=hi.
 fn in_range(lo: u32, hi: u32, b: u32) -> bool

@@ -1,6 +1,6 @@
--- Laws of the causes: what one more in front changes (`first-refused`, `first-given`, `first-passed`, `first-on`), what an allowed call has
--- (`first-free`, `given-free`) and the other way round (`free-first`, `free-given`); that a refusal is not allowed (`never`); and what two
--- lists of causes one after the other give (`first-front`, `first-past`).
+-- Laws of the causes: none and one alone (`no-cause`, `first-one`); what one more in front changes (`first-refused`, `first-given`,
+-- `first-passed`, `first-on`), what an allowed call has (`first-free`, `given-free`) and the other way round (`free-first`, `free-given`); that
+-- a refusal is not allowed (`never`); and what two lists of causes one after the other give (`first-front`, `first-past`).
 -- Assumes nothing.
 use Prim.Native.Nat.{ℕ}
 use mathlib.Core.Path.{_≡_, refl, sym, _∙_}
@@ -21,6 +21,18 @@ never r e = absurd (no (told r e))
 
     no : _≡_ {A = ℕ} 0 1 → ⊥
     no z = omega arith
+
+-- ---- none, and one alone
+-- of no causes there is no first
+pub no-cause : firstOf [] ≡ Allowed
+unfolding firstOf
+no-cause = refl
+
+-- one cause alone
+pub first-one : (c : Cause) → firstOf (c ∷ []) ≡ c
+unfolding firstOf
+first-one Allowed = refl
+first-one (Refused r) = refl
 
 -- ---- one law for each return
 pub given-yes : (b : Bool) (number place : ℕ) → b ≡ true → given b number place ≡ refusedAt number place

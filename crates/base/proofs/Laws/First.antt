@@ -1,13 +1,16 @@
 -- Laws of `first`: `first-start`, `-hit`, `-miss`, `-end` for a walk from the front, `first-is` and `first-none` for any other search,
--- `first-before`, `first-found` and `first-within` for readers.
+-- `first-before`, `first-found` and `first-within` for readers. Laws of `each`: one index more (`each-more`), what holds at an index (`each-at`) and the
+-- other way round (`each-all`), and that the first index at which the test fails is then past all (`first-each`, `each-first`).
 -- Assumes nothing.
 use Prim.Native.Nat.{ℕ, zero, suc, _+_, _-_, _≤_, _<_}
 use mathlib.Core.Path.{_≡_, refl, sym, _∙_}
-use mathlib.Core.Bool.{Bool, true, false, cond}
-use native.Mathlib.Nat.{sub-zero}
+use mathlib.Core.Bool.{Bool, true, false, cond, not, _&&_}
+use native.Mathlib.Nat.{sub-zero, not-suc-le-zero}
+use native.Mathlib.Numerals.{add-one}
 use native.Mathlib.Omega.{arith}
-use Rattle.base.proofs.Laws.Tests.{by-test, by-bool, split}
-use Rattle.base.specs.First.{seek, first}
+use borrow.Author.Tests.{not-false}
+use Rattle.base.proofs.Laws.Tests.{by-test, by-bool, split, and-l, and-r, and-yes}
+use Rattle.base.specs.First.{seek, first, each}
 use Rattle.base.specs.Inner.First.{firstFrom}
 
 module _ (f : ℕ → Bool) (n : ℕ) where
@@ -102,3 +105,28 @@ found f (suc k) i l =
 pub first-found : (f : ℕ → Bool) (n : ℕ) → first f n < n → f (first f n) ≡ true
 unfolding first
 first-found f n h = found f n 0 (omega arith)
+
+-- ---- a test that holds at every index
+module _ (g : ℕ → Bool) where
+  pub each-more : (k : ℕ) → (each g k && g k) ≡ each g (k + 1)
+  unfolding each
+  each-more k = rw (add-one k)
+
+  pub each-at : (n : ℕ) → each g n ≡ true → (k : ℕ) → k < n → g k ≡ true
+  unfolding each
+  each-at zero e k h = absurd (not-suc-le-zero h)
+  each-at (suc n) e k h =
+      split k n
+      (λ l. each-at n (and-l (each g n) (g n) e) k l)
+      (λ l. let z : n ≡ k = omega arith in rw z at (and-r (each g n) (g n) e))
+
+  pub each-all : (n : ℕ) → ((k : ℕ) → k < n → g k ≡ true) → each g n ≡ true
+  unfolding each
+  each-all zero h = refl
+  each-all (suc n) h = and-yes (each-all n (λ k l. h k (omega arith))) (h n (omega arith))
+
+  pub first-each : (n : ℕ) → n ≤ first (λ j. not (g j)) n → each g n ≡ true
+  first-each n h = each-all n (λ k l. not-false _ (first-before (λ j. not (g j)) n k (omega arith)))
+
+  pub each-first : (n : ℕ) → each g n ≡ true → first (λ j. not (g j)) n ≡ n
+  each-first n e = first-none (λ j. not (g j)) n (λ k l. rw (each-at n e k l))

@@ -1,13 +1,14 @@
--- Laws of `put`: its length, what stands before, in and behind the list that was put, one element more, two lists one after the other.
+-- Laws of `put`: its length, what stands before, in and behind the list that was put, one element more, two lists one after the other (`put-over`, `put-swap`, `put-on`),
+-- and a list put over the front, which leaves nothing of it (`put-forgets`).
 -- Assumes nothing.
 use Prim.Native.Nat.{ℕ, suc, _+_, _-_, _≤_, _<_}
 use mathlib.Core.Path.{_≡_, refl, sym, ap, _∙_}
 use mathlib.Core.List.{List, [], _∷_, _++_, append-assoc}
-use native.Mathlib.Nat.{add-zero, zero-add, suc-add}
+use native.Mathlib.Nat.{add-zero, zero-add, add-assoc, suc-add}
 use native.Mathlib.Numerals.{add-one}
 use native.Mathlib.Omega.{arith}
 use lib.ListN.{length, getD, set, take, drop, length-append, length-drop, length-set, List·getD-append, take-append-drop}
-use lib.Seq.{set-append-left, paste, paste-suc, length-take-le, take-append-le, take-append-seam, take-take, take-length, drop-at, drop-drop, getD-take, getD-drop, getD-append-add, ext-getD}
+use lib.Seq.{set-append-left, paste, paste-suc, length-take-le, take-append-le, take-append-seam, take-at, take-take, take-length, drop-at, drop-drop, getD-take, getD-drop, getD-append-add, ext-getD}
 use Rattle.base.specs.Put.{put}
 use Rattle.base.proofs.Laws.Tests.{split}
 
@@ -181,3 +182,28 @@ module _ {A : Type 0} where
 
   pub put-all : (w : List A) (a : ℕ) (s : List A) → put w a s ≡ paste w a s (length s)
   put-all w a s = sym (ap (put w a) (take-length s)) ∙ put-paste w a s (length s) (omega arith)
+
+  -- a list put right behind one that was put
+  pub put-on : (b : List A) (at : ℕ) (p q : List A) → at + length p ≤ length b → put (put b at p) (at + length p) q ≡ put b at (p ++ q)
+  unfolding put
+  put-on b at p q room =
+      let e : length (p ++ q) ≡ length p + length q = length-append p q in
+      rw (taken, beyond, e) (simp (append-assoc, add-assoc))
+    where
+      front : length (take at b ++ p) ≡ at + length p
+      front = simp (length-append, length-take-le at b (omega arith))
+
+      taken : take (at + length p) (take at b ++ (p ++ drop (at + length p) b)) ≡ take at b ++ p
+      taken = rw (← append-assoc (take at b) p (drop (at + length p) b)) (take-at (take at b ++ p) (drop (at + length p) b) (at + length p) front)
+
+      beyond : drop (at + length p + length q) (take at b ++ (p ++ drop (at + length p) b)) ≡ drop (at + length p + length q) b
+      beyond = put-beyond b at p room (at + length p + length q) (omega arith)
+
+  -- a list put over the front leaves nothing of it
+  pub put-forgets : (u w l : List A) (k : ℕ) → k ≤ length l → drop k u ≡ drop k w → put u 0 l ≡ put w 0 l
+  put-forgets u w l k h e = put-first u l ∙ ap (λ (v : List A). l ++ v) behind ∙ sym (put-first w l)
+    where
+      behind : drop (length l) u ≡ drop (length l) w
+      behind =
+          let m : k + (length l - k) ≡ length l = omega arith in
+          rw (← m) (sym (drop-drop (length l - k) k u) ∙ ap (drop (length l - k)) e ∙ drop-drop (length l - k) k w)

@@ -6,7 +6,11 @@ use Rattle.base.proofs.u32_at.Statement.{statement}
 use Rattle.base.proofs.u32_at.Tie as tie
 
 returns : tie.Need-returns
-returns c = word-of _ _ _ _ _ _ (c .before .before .before .before .before .before .wide .ensures .0) (c .before .before .before .before .wide2 .ensures .0) (c .before .before .wide3 .ensures .0) (c .wide4 .ensures .0) (c .before .before .before .before .before .before .wide .ensures .1) (c .before .before .before .before .wide2 .ensures .1)
+returns c =
+    let third = c .before .before .wide3 .ensures in
+    let second = c .before .before .before .before .wide2 .ensures in
+    let lowest = c .before .before .before .before .before .before .wide .ensures in
+    word-of _ _ _ _ _ _ (lowest .is) (second .is) (third .is) (c .wide4 .ensures .is) (lowest .small) (second .small)
 
 pub u32-at-spec : {M : Type 1} → statement M
 u32-at-spec =

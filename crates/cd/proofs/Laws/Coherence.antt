@@ -14,11 +14,11 @@ use Rattle.base.specs.declared.Refusal.{Refusal}
 use Rattle.base.specs.Limits.{LAST-RANGE, PAIR-BYTES, WORK-PER-POINT}
 use Rattle.base.specs.Inner.Limits.{LONGEST-LAYER}
 use Rattle.base.specs.Put.{put}
+use Rattle.base.proofs.Laws.Put.{put-forgets}
 use Rattle.ratio.specs.Finite.{isFinite}
 use Rattle.cd_languages.proofs.Laws.Languages.{good-most}
 use Rattle.cd_work.specs.Inner.Layout.{words, lettersStart, lacksStart}
 use Rattle.cd_work.specs.Inner.Parts.{Room, Kept, numbersIn, lettersIn}
-use Rattle.cd_work.proofs.Laws.Layer.{put-forgets}
 use Rattle.cd_layers.specs.Layers.{Taken, Layer, alphaUnicodeSplit}
 use Rattle.cd_layers.specs.Inner.Numbers.{numbers, keysOf, Below}
 use Rattle.cd_layers.proofs.Laws.Numbers.{alone, layers-few}

@@ -21,7 +21,9 @@ use Rattle.cd_best.proofs.Laws.Best.{best-upper}
 use Rattle.cd_ranking.specs.declared.CoherenceMatch.{CoherenceMatch}
 use Rattle.cd_ranking.specs.Ranking.{matched, matchAt, rankingOf}
 use Rattle.cd_ranking.proofs.Laws.Keys.{Rankable}
-use Rattle.cd_ranking.proofs.Laws.Ranking.{Each, Pairs, each-so, Told, ranking-falls, ranking-ties, ranking-once, ranking-told, ranking-all, ranking-few, matched-all, matched-best, hits-rankable}
+use Rattle.base.specs.Inner.All.{All}
+use Rattle.base.proofs.Laws.All.{all-so}
+use Rattle.cd_ranking.proofs.Laws.Ranking.{Pairs, Told, ranking-falls, ranking-ties, ranking-once, ranking-told, ranking-all, ranking-few, matched-all, matched-best, hits-rankable}
 use Rattle.cd.specs.Inner.Causes.{Free}
 use Rattle.cd.specs.Coherence.{matchesOf}
 use Rattle.cd.specs.KeptMatches.{layersKept, keptOf}
@@ -72,13 +74,13 @@ module _ (text : List ℕ) (threshold : Float) (small : ℕ) (classes pairs t in
         rw (e .2) (rw q at (best-upper hits (λ g j. knows g j .1 .plain) h i)),
   )
 
-  pub matches-best : Each (IsBest t hits) found
+  pub matches-best : All (IsBest t hits) found
   unfolding matchesOf
-  matches-best = each-so (rankingOf t hits) told-best (ranking-told rankable)
+  matches-best = all-so (rankingOf t hits) told-best (ranking-told rankable)
 
   -- "Below the threshold .. a match is skipped"
-  pub matches-above : Each (λ m. lt (m .score) threshold ≡ false) found
-  matches-above = each-so found (λ m b. kept-threshold text threshold small classes pairs t included _ (b .0)) matches-best
+  pub matches-above : All (λ m. lt (m .score) threshold ≡ false) found
+  matches-above = all-so found (λ m b. kept-threshold text threshold small classes pairs t included _ (b .0)) matches-best
 
   -- each kept match's language has a match
   pub matches-all : (h : Hit) → In h hits → (m : CoherenceMatch) × In m found × (m .language ≡ numberOf t (h .at))
@@ -97,9 +99,9 @@ module _ (text : List ℕ) (threshold : Float) (small : ℕ) (classes pairs t in
   unfolding matchesOf
   matches-once = ranking-once rankable
 
-  pub matches-known : Each (λ m. firstRecord t (m .language) < languages t) found
+  pub matches-known : All (λ m. firstRecord t (m .language) < languages t) found
   unfolding matchesOf
-  matches-known = each-so (rankingOf t hits) (λ m e. e .0) (ranking-told rankable)
+  matches-known = all-so (rankingOf t hits) (λ m e. e .0) (ranking-told rankable)
 
   pub matches-few : length found ≤ languages t
   unfolding matchesOf

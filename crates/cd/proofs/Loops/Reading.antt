@@ -52,7 +52,8 @@ module _ (threshold : Float) (small : ℕ) (classes t included : List ℕ) where
   read-layers n w ys s e = read-rest n w 0 ys s (λ j h. e j ∙ ap (λ (i : ℕ). layerLetters n i w) (omega arith))
 
   -- only the numbers and letters matter
-  pub read-same : (n : ℕ) (v w : List ℕ) (k m : ℕ) (s : Standing) → take (lacksStart n) v ≡ take (lacksStart n) w → (readFrom threshold small classes t included) n v k m s ≡ (readFrom threshold small classes t included) n w k m s
+  pub read-same : (n : ℕ) (v w : List ℕ) (k m : ℕ) (s : Standing) → take (lacksStart n) v ≡ take (lacksStart n) w
+      → (readFrom threshold small classes t included) n v k m s ≡ (readFrom threshold small classes t included) n w k m s
   unfolding readFrom
   read-same n v w k zero s e = refl
   read-same n v w k (suc m) s e = rw (letters-same n (k + 1) n v w (le-refl n) e) (read-same n v w (k + 1) m _ e)

@@ -23,16 +23,31 @@ part-holds-start : tie.Need-part-holds-start Inv-loop μ-loop
 part-holds-start c = omega arith
 
 in-layer-requires : tie.Need-in-layer-requires Inv-loop μ-loop
-in-layer-requires c κs = c .before .before .before .before .before .before .before .before .pre .0
+in-layer-requires c κs =
+    let asked = c .before .before .before .before .before .before .before .before in
+    asked .pre .0
 
 add-num : tie.Need-add-num Inv-loop μ-loop
-add-num c = omega (arith, c .before .before .before .before .before .before .loop .inv .less, c .one .ensures .small, c .before .before .before .before .before .loop-test .taken, c .before .before .before .before .before .before .before .before .before .before .pre .1)
+add-num c =
+    let at-loop-test = c .before .before .before .before .before in
+    let at-loop = at-loop-test .before in
+    let asked = at-loop .before .before .before .before in
+    omega (arith, at-loop .loop .inv .less, c .one .ensures .small, at-loop-test .loop-test .taken, asked .pre .1)
 
 add-den : tie.Need-add-den Inv-loop μ-loop
-add-den c = omega (arith, c .before .before .before .before .before .before .before .loop .inv .few, c .one2 .ensures .small, c .before .before .before .before .before .before .loop-test .taken, c .before .before .before .before .before .before .before .before .before .before .before .pre .1)
+add-den c =
+    let at-loop-test = c .before .before .before .before .before .before in
+    let at-loop = at-loop-test .before in
+    let asked = at-loop .before .before .before .before in
+    omega (arith, at-loop .loop .inv .few, c .one2 .ensures .small, at-loop-test .loop-test .taken, asked .pre .1)
 
 loop-again : tie.Need-loop-again Inv-loop μ-loop
-loop-again c = counting-more _ _ (c .before .before .before .before .before .before .before .loop .inv) (c .before .before .before .before .before .before .loop-test .taken) _ _ (rw (c .before .before .before .holds .ensures, c .before .before .in-layer .ensures) at (c .before .one .ensures)) (rw (c .before .before .before .holds .ensures) at (c .one2 .ensures))
+loop-again c =
+    let at-holds = c .before .before .before in
+    let at-loop-test = at-holds .before .before .before in
+    let at-loop = at-loop-test .before in
+    counting-more _ _ (at-loop .loop .inv) (at-loop-test .loop-test .taken) _ _
+    (rw (at-holds .holds .ensures, c .before .before .in-layer .ensures) at (c .before .one .ensures)) (rw (at-holds .holds .ensures) at (c .one2 .ensures))
 
 returns : tie.Need-returns Inv-loop μ-loop
 returns c = counting-end _ _ (c .before .loop .inv) (c .loop-test .left)

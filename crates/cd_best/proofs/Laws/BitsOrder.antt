@@ -5,7 +5,8 @@ use Prim.Native.Nat.{ℕ, _+_, _-_, _*_, _/_, _^_, _≤_, _<_}
 use mathlib.Core.Path.{_≡_, sym, ap, _∙_, subst}
 use mathlib.Core.Logic.{inl, inr}
 use mathlib.Core.Bool.{true, false, not, true≢false}
-use native.Mathlib.Nat.{le-of-eq, le-trans, eq-or-lt-of-le, le-refl, le-of-lt, lt-of-le-of-lt, mul-lt-mul-of-pos-right, mul-le-mul-right, mul-div-cancel, le-div-iff-mul-le, le-antisymm, le-of-mul-le-mul-right}
+use native.Mathlib.Nat.{le-of-eq, le-trans, eq-or-lt-of-le, le-refl, le-of-lt, lt-of-le-of-lt, mul-lt-mul-of-pos-right, mul-le-mul-right}
+use native.Mathlib.Nat.{mul-div-cancel, le-div-iff-mul-le, le-antisymm, le-of-mul-le-mul-right}
 use native.Mathlib.Omega.{arith}
 use lib.Arith.{lt-of-le-ne}
 use lib.Dec.{T, ltb, leb}

@@ -116,5 +116,6 @@ pub jaro-bounds : (layer language : List ℕ) → length layer ≤ MOST-LETTERS 
 unfolding jaro
 jaro-bounds layer language h k =
     ⊎-elim (λ e. inl (nought (matches layer language) (transpositions layer language) (length layer) (length language) e))
-    (λ p. inr (measured (matches layer language) (transpositions layer language) (length layer) (length language) p (matches-layer layer language) (matches-language layer language) (transpositions-half layer language) h k))
+    (λ p. inr (measured (matches layer language) (transpositions layer language) (length layer) (length language) p (matches-layer layer language)
+    (matches-language layer language) (transpositions-half layer language) h k))
     (eq-zero-or-pos (matches layer language))

@@ -9,7 +9,10 @@ returns : tie.Need-returns
 returns c = jaro-none (c .before .matched .ensures) (c .if1 .taken)
 
 returns-2 : tie.Need-returns-2
-returns-2 c = jaro-some (c .before .before .before .before .matched .ensures) (c .before .before .before .if1 .left) (c .before .before .over .ensures) (c .before .over2 .ensures) (c .over3 .ensures)
+returns-2 c =
+    let at-if1 = c .before .before .before in
+    let at-matched = at-if1 .before in
+    jaro-some (at-matched .matched .ensures) (at-if1 .if1 .left) (c .before .before .over .ensures) (c .before .over2 .ensures) (c .over3 .ensures)
 
 pub jaro-spec : {M : Type 1} → statement M
 jaro-spec =

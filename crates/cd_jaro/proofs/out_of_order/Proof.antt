@@ -18,22 +18,43 @@ loop-holds : tie.Need-loop-holds Inv-loop μ-loop
 loop-holds c = counting-start _ _ _ (c .before .before .before .pre .pairs)
 
 mul-one : tie.Need-mul-one Inv-loop μ-loop
-mul-one c = omega (arith, counting-room _ _ _ (c .before .before .before .loop .inv) (c .before .before .loop-test .taken) (c .before .before .before .before .before .before .before .pre .flags) (c .if1 .taken))
+mul-one c =
+    let at-loop = c .before .before .before in
+    let asked = at-loop .before .before .before .before in
+    omega (arith, counting-room _ _ _ (at-loop .loop .inv) (c .before .before .loop-test .taken) (asked .pre .flags) (c .if1 .taken))
 
 shared-slice-read-one : tie.Need-shared-slice-read-one Inv-loop μ-loop
-shared-slice-read-one c = counting-room _ _ _ (c .before .before .before .before .loop .inv) (c .before .before .before .loop-test .taken) (c .before .before .before .before .before .before .before .before .pre .flags) (c .before .if1 .taken)
+shared-slice-read-one c =
+    let at-loop-test = c .before .before .before in
+    let at-loop = at-loop-test .before in
+    let asked = at-loop .before .before .before .before in
+    counting-room _ _ _ (at-loop .loop .inv) (at-loop-test .loop-test .taken) (asked .pre .flags) (c .before .if1 .taken)
 
 add-out : tie.Need-add-out Inv-loop μ-loop
-add-out c = omega (arith, c .one .ensures .small, c .before .before .before .before .before .before .loop .inv .few, c .before .before .before .before .before .loop-test .taken)
+add-out c =
+    let at-loop-test = c .before .before .before .before .before in
+    let at-loop = at-loop-test .before in
+    omega (arith, c .one .ensures .small, at-loop .loop .inv .few, at-loop-test .loop-test .taken)
 
 add-k : tie.Need-add-k Inv-loop μ-loop
-add-k c = omega (arith, c .before .before .before .before .before .before .loop .inv .some, c .before .before .before .before .before .loop-test .taken)
+add-k c =
+    let at-loop-test = c .before .before .before .before .before in
+    let at-loop = at-loop-test .before in
+    omega (arith, at-loop .loop .inv .some, at-loop-test .loop-test .taken)
 
 loop-again : tie.Need-loop-again Inv-loop μ-loop
-loop-again c = counting-pick _ _ _ (c .before .before .before .before .before .before .loop .inv) (c .before .before .before .before .before .loop-test .taken) (c .before .before .before .before .before .before .before .before .before .before .pre .flags) (c .before .before .before .if1 .taken) (c .one .ensures)
+loop-again c =
+    let at-if1 = c .before .before .before in
+    let at-loop-test = at-if1 .before .before in
+    let at-loop = at-loop-test .before in
+    let asked = at-loop .before .before .before .before in
+    counting-pick _ _ _ (at-loop .loop .inv) (at-loop-test .loop-test .taken) (asked .pre .flags) (at-if1 .if1 .taken) (c .one .ensures)
 
 loop-again-2 : tie.Need-loop-again-2 Inv-loop μ-loop
-loop-again-2 c = counting-skip _ _ _ (c .before .before .before .loop .inv) (c .before .before .loop-test .taken) (c .before .before .before .before .before .before .before .pre .flags) (c .if1 .left)
+loop-again-2 c =
+    let at-loop = c .before .before .before in
+    let asked = at-loop .before .before .before .before in
+    counting-skip _ _ _ (at-loop .loop .inv) (c .before .before .loop-test .taken) (asked .pre .flags) (c .if1 .left)
 
 returns : tie.Need-returns Inv-loop μ-loop
 returns c = counting-end _ _ _ (c .before .loop .inv) (c .loop-test .left)

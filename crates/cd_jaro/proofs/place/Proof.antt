@@ -15,7 +15,10 @@ abbrev μ-loop : tie.MeasureT-loop
 μ-loop language taken x i w n start end j₀ j = end - j
 
 returns : tie.Need-returns Inv-loop μ-loop
-returns c = seeking-absent _ _ _ _ _ (c .before .before .before .before .before .less .ensures) (c .before .before .before .before .least .ensures .is) (c .before .holds .ensures) (c .if2 .taken)
+returns c =
+    let at-least = c .before .before .before .before in
+    let at-less = at-least .before in
+    seeking-absent _ _ _ _ _ (at-less .less .ensures) (at-least .least .ensures .is) (c .before .holds .ensures) (c .if2 .taken)
 
 loop-holds : tie.Need-loop-holds Inv-loop μ-loop
 loop-holds c = seeking-start _ _ _ _ _ (c .before .before .less .ensures)
@@ -27,7 +30,11 @@ loop-again-2 : tie.Need-loop-again-2 Inv-loop μ-loop
 loop-again-2 c = seeking-taken _ _ _ _ _ (c .before .before .before .before .before .loop .inv) (c .if4 .taken)
 
 returns-2 : tie.Need-returns-2 Inv-loop μ-loop
-returns-2 c = seeking-found _ _ _ _ _ (c .before .before .before .before .before .loop .inv) (c .before .before .before .before .before .before .before .least .ensures .is) (c .before .before .before .before .loop-test .taken) (c .before .before .if3 .left) (c .if4 .left)
+returns-2 c =
+    let at-loop-test = c .before .before .before .before in
+    let at-loop = at-loop-test .before in
+    let at-least = at-loop .before .before in
+    seeking-found _ _ _ _ _ (at-loop .loop .inv) (at-least .least .ensures .is) (at-loop-test .loop-test .taken) (c .before .before .if3 .left) (c .if4 .left)
 
 returns-3 : tie.Need-returns-3 Inv-loop μ-loop
 returns-3 c = seeking-end _ _ _ _ _ (c .before .loop .inv) (c .before .before .before .least .ensures .is) (c .loop-test .left)

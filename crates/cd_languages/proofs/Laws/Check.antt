@@ -1,8 +1,8 @@
 -- Laws of the check of a language table: its causes one by one; a table that passes is good, and a good one passes.
 -- Assumes nothing.
 use Prim.Native.Nat.{ℕ, _%_, _≤_, _<_}
-use mathlib.Core.Path.{_≡_, refl, _∙_}
-use mathlib.Core.List.{List, []}
+use mathlib.Core.Path.{_≡_, _∙_}
+use mathlib.Core.List.{List}
 use mathlib.Core.Bool.{true, false, not, _&&_}
 use native.Mathlib.Omega.{arith}
 use lib.ListN.{length}
@@ -10,22 +10,17 @@ use lib.Dec.{leb, eqb}
 use borrow.Author.Tests.{leb-true, le-leb, le-ltb, lt-ltb, ltb-false, eqb-true, eq-eqb, ne-eqb, not-false}
 use Rattle.base.specs.declared.Cause.the-variants.{Allowed}
 use Rattle.base.specs.declared.Counted.the-variants.{Count}
-use Rattle.base.specs.Causes.{refusedAt, firstOf}
+use Rattle.base.specs.Causes.{refusedAt}
 use Rattle.base.specs.Limits.{LANGUAGE-RECORD, MOST-LANGUAGES}
 use Rattle.base.specs.Refusals.{BAD-LANGUAGES}
-use Rattle.base.proofs.Laws.First.{first-within}
+use Rattle.base.specs.First.{each}
+use Rattle.base.proofs.Laws.First.{first-within, first-each, each-first}
 use Rattle.base.proofs.Laws.Tests.{and-l, and-r, and-yes}
-use Rattle.base.proofs.Laws.Causes.{first-given, first-passed, first-free, given-free}
+use Rattle.base.proofs.Laws.Causes.{no-cause, first-given, first-passed, first-free, given-free}
 use Rattle.base.proofs.Laws.Counted.{counted-allowed, count-allowed, count-is}
-use Rattle.cd_languages.specs.Languages.{languages, each, goodRecord, firstBad}
+use Rattle.cd_languages.specs.Languages.{languages, goodRecord, firstBad}
 use Rattle.cd_languages.specs.Inner.Languages.{goodLanguages}
-use Rattle.cd_languages.proofs.Laws.Languages.{first-each, each-first}
 use Rattle.cd_languages.specs.Check.{badLanguages, checked}
-
--- of no causes there is no first
-pub no-cause : firstOf [] ≡ Allowed
-unfolding firstOf
-no-cause = refl
 
 module _ (t : List ℕ) where
   -- one law for each return

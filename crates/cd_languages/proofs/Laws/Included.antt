@@ -15,11 +15,10 @@ use Rattle.base.specs.Limits.{MOST-INCLUDED}
 use Rattle.base.specs.Refusals.{BAD-INCLUDED}
 use Rattle.base.proofs.Laws.First.{first-within, first-before, first-none}
 use Rattle.base.proofs.Laws.Tests.{by-bool}
-use Rattle.base.proofs.Laws.Causes.{first-given, first-passed, first-free, given-free}
+use Rattle.base.proofs.Laws.Causes.{no-cause, first-given, first-passed, first-free, given-free}
 use Rattle.base.proofs.Laws.Counted.{counted-allowed, count-allowed}
 use Rattle.cd_languages.specs.Included.{loneZero, inTable, firstMissing, badIncluded, checkedIncluded}
 use Rattle.cd_languages.specs.Inner.Permitted.{Permitted}
-use Rattle.cd_languages.proofs.Laws.Check.{no-cause}
 
 module _ (l t : List ℕ) where
   -- one law for each return

@@ -1,47 +1,21 @@
--- Laws of the language table: what a good table's records are; a test that holds at every index (`each-..`), and where a record's bytes stand.
+-- Laws of the language table: what a good table's records are, and where a record's bytes stand.
 -- Assumes nothing.
-use Prim.Native.Nat.{ℕ, zero, suc, _+_, _*_, _/_, _%_, _≤_, _<_}
-use mathlib.Core.Path.{_≡_, refl}
+use Prim.Native.Nat.{ℕ, _+_, _*_, _/_, _%_, _≤_, _<_}
+use mathlib.Core.Path.{_≡_}
 use mathlib.Core.List.{List}
-use mathlib.Core.Bool.{Bool, true, false, not, _&&_, and-true}
-use native.Mathlib.Nat.{not-suc-le-zero}
-use native.Mathlib.Numerals.{add-one}
+use mathlib.Core.Bool.{true, false, not, _&&_, and-true}
 use native.Mathlib.Omega.{arith}
 use lib.ListN.{length}
 use lib.Dec.{leb, eqb}
-use borrow.Author.Tests.{leb-true, le-leb, lt-ltb, le-ltb, eqb-true, eqb-false, not-true, not-false}
-use Rattle.base.specs.First.{first}
-use Rattle.base.proofs.Laws.First.{first-before, first-found, first-none, first-within}
+use borrow.Author.Tests.{leb-true, le-leb, lt-ltb, le-ltb, eqb-true, eqb-false, not-true}
+use Rattle.base.specs.First.{each}
+use Rattle.base.proofs.Laws.First.{first-before, first-found, first-within, each-at}
 use Rattle.base.specs.Limits.{LANGUAGE-RECORD, LANGUAGE-LETTERS, MOST-LANGUAGES, MOST-MARKS}
 use Rattle.base.specs.Tests.{scalar, within}
-use Rattle.base.proofs.Laws.Tests.{within-lo, within-hi, within-above, by-bool, split, and-l, and-r, and-yes}
+use Rattle.base.proofs.Laws.Tests.{within-lo, within-hi, within-above, by-bool, and-l, and-r}
 use Rattle.base.specs.Inner.LittleEndian.{Word}
-use Rattle.cd_languages.specs.Languages.{COUNT-AT, MARKS-AT, SLOTS-AT, SLOT, languages, numberOf, letterCount, marksOf, slotAt, each, goodSlot, slotGood, goodSlots, goodRecord, firstRecord}
+use Rattle.cd_languages.specs.Languages.{COUNT-AT, MARKS-AT, SLOTS-AT, SLOT, languages, numberOf, letterCount, marksOf, slotAt, goodSlot, slotGood, goodSlots, goodRecord, firstRecord}
 use Rattle.cd_languages.specs.Inner.Languages.{goodLanguages}
-
-module _ (g : ℕ → Bool) where
-  pub each-more : (k : ℕ) → (each g k && g k) ≡ each g (k + 1)
-  unfolding each
-  each-more k = rw (add-one k)
-
-  pub each-at : (n : ℕ) → each g n ≡ true → (k : ℕ) → k < n → g k ≡ true
-  unfolding each
-  each-at zero e k h = absurd (not-suc-le-zero h)
-  each-at (suc n) e k h =
-      split k n
-      (λ l. each-at n (and-l (each g n) (g n) e) k l)
-      (λ l. let z : n ≡ k = omega arith in rw z at (and-r (each g n) (g n) e))
-
-  pub each-all : (n : ℕ) → ((k : ℕ) → k < n → g k ≡ true) → each g n ≡ true
-  unfolding each
-  each-all zero h = refl
-  each-all (suc n) h = and-yes (each-all n (λ k l. h k (omega arith))) (h n (omega arith))
-
-  pub first-each : (n : ℕ) → n ≤ first (λ j. not (g j)) n → each g n ≡ true
-  first-each n h = each-all n (λ k l. not-false _ (first-before (λ j. not (g j)) n k (omega arith)))
-
-  pub each-first : (n : ℕ) → each g n ≡ true → first (λ j. not (g j)) n ≡ n
-  each-first n e = first-none (λ j. not (g j)) n (λ k l. rw (each-at n e k l))
 
 module _ (t : List ℕ) (i : ℕ) where
   pub slot-used : (k : ℕ) → k < letterCount t i → scalar (slotAt t i k) ≡ slotGood t i k

@@ -5,8 +5,10 @@ use Prim.Native.Nat.{_-_, _≤_}
 use mathlib.Core.Path.{_≡_, ap, _∙_}
 use lib.Dec.{eqb}
 use Rattle.base.specs.Limits.{LANGUAGE-LETTERS}
-use Rattle.cd_languages.specs.Languages.{letterCount, each, slotGood, goodSlots}
-use Rattle.cd_languages.proofs.Laws.Languages.{each-more, slot-unused}
+use Rattle.base.specs.First.{each}
+use Rattle.base.proofs.Laws.First.{each-more}
+use Rattle.cd_languages.specs.Languages.{letterCount, slotGood, goodSlots}
+use Rattle.cd_languages.proofs.Laws.Languages.{slot-unused}
 use Rattle.cd_languages.proofs.slots_good.Statement.{statement}
 use Rattle.cd_languages.proofs.slots_good.Tie as tie
 

@@ -4,8 +4,10 @@ use native.Mathlib.Omega.{arith}
 use Prim.Native.Nat.{_-_, _≤_}
 use mathlib.Core.Path.{_≡_, refl, ap, _∙_}
 use Rattle.base.specs.Tests.{scalar}
-use Rattle.cd_languages.specs.Languages.{each, slotGood}
-use Rattle.cd_languages.proofs.Laws.Languages.{each-more, slot-used}
+use Rattle.base.specs.First.{each}
+use Rattle.base.proofs.Laws.First.{each-more}
+use Rattle.cd_languages.specs.Languages.{slotGood}
+use Rattle.cd_languages.proofs.Laws.Languages.{slot-used}
 use borrow.Author.Needs.{needs}
 use Rattle.cd_languages.proofs.used_good.Statement.{statement}
 use Rattle.cd_languages.proofs.used_good.Tie as tie

@@ -6,7 +6,8 @@ use mathlib.Core.Bool.{Bool, _&&_}
 use lib.ListN.{length}
 use lib.Dec.{leb, eqb}
 use Rattle.base.specs.Limits.{LANGUAGE-RECORD, MOST-LANGUAGES}
-use Rattle.cd_languages.specs.Languages.{languages, each, goodRecord}
+use Rattle.base.specs.First.{each}
+use Rattle.cd_languages.specs.Languages.{languages, goodRecord}
 
 -- "Good: whole records", "At most 63 records", and every record good
 unfoldable pub goodLanguages : List ℕ → Bool

@@ -36,40 +36,81 @@ slice-aggregate-layer-for : tie.Need-slice-aggregate-layer-for Inv-loop μ-loop
 slice-aggregate-layer-for c = c .before .before .before .before .loop .inv .count
 
 layer-for-requires : tie.Need-layer-for-requires Inv-loop μ-loop
-layer-for-requires c κs = (c .before .before .before .before .before .before .before .pre .1, going-range _ _ _ (c .before .before .before .before .loop .inv) (c .before .before .before .loop-test .taken), c .before .before .before .before .loop .inv .small)
+layer-for-requires c κs =
+    let at-loop-test = c .before .before .before in
+    let at-loop = at-loop-test .before in
+    let asked = at-loop .before .before .before in
+    (asked .pre .1, going-range _ _ _ (at-loop .loop .inv) (at-loop-test .loop-test .taken), at-loop .loop .inv .small)
 
 add-work : tie.Need-add-work Inv-loop μ-loop
-add-work c = omega (arith, going-within _ _ _ (c .before .before .before .before .before .loop .inv) (c .before .before .before .before .loop-test .taken) refl (c .before .before .if1 .left) (c .layer-for .ensures), going-few _ _ _ (c .before .before .before .before .before .loop .inv))
+add-work c =
+    let at-loop-test = c .before .before .before .before in
+    let at-loop = at-loop-test .before in
+    omega (arith, going-within _ _ _ (at-loop .loop .inv) (at-loop-test .loop-test .taken) refl (c .before .before .if1 .left) (c .layer-for .ensures), going-few _ _ _ (at-loop .loop .inv))
 
 cast-work : tie.Need-cast-work Inv-loop μ-loop
-cast-work c = record { fits = omega (arith, going-within _ _ _ (c .before .before .before .before .before .loop .inv) (c .before .before .before .before .loop-test .taken) refl (c .before .before .if1 .left) (c .layer-for .ensures), going-few _ _ _ (c .before .before .before .before .before .loop .inv)) }
+cast-work c =
+    let at-loop-test = c .before .before .before .before in
+    let at-loop = at-loop-test .before in
+    record {
+      fits = omega (
+        arith,
+        going-within _ _ _ (at-loop .loop .inv) (at-loop-test .loop-test .taken) refl (c .before .before .if1 .left)
+            (c .layer-for .ensures),
+        going-few _ _ _ (at-loop .loop .inv),
+      );
+    }
 
 mul-work : tie.Need-mul-work Inv-loop μ-loop
-mul-work c = omega (arith, going-inside _ _ _ (c .before .before .before .before .before .loop .inv) (c .before .before .before .before .loop-test .taken))
+mul-work c =
+    let at-loop-test = c .before .before .before .before in
+    let at-loop = at-loop-test .before in
+    omega (arith, going-inside _ _ _ (at-loop .loop .inv) (at-loop-test .loop-test .taken))
 
 slice-write-work : tie.Need-slice-write-work Inv-loop μ-loop
-slice-write-work c = omega (arith, going-inside _ _ _ (c .before .before .before .before .before .loop .inv) (c .before .before .before .before .loop-test .taken))
+slice-write-work c =
+    let at-loop-test = c .before .before .before .before in
+    let at-loop = at-loop-test .before in
+    omega (arith, going-inside _ _ _ (at-loop .loop .inv) (at-loop-test .loop-test .taken))
 
 mul-keys : tie.Need-mul-keys Inv-loop μ-loop
 mul-keys c = omega (arith, going-few _ _ _ (c .before .before .before .before .before .before .loop .inv))
 
 array-write-keys : tie.Need-array-write-keys Inv-loop μ-loop
-array-write-keys c = going-room _ _ _ (c .before .before .before .before .before .before .loop .inv) (c .before .before .before .before .before .loop-test .taken) refl (c .before .before .before .if1 .left) (c .before .layer-for .ensures) (c .if2 .taken)
+array-write-keys c =
+    let at-if1 = c .before .before .before in
+    let at-loop-test = at-if1 .before .before in
+    let at-loop = at-loop-test .before in
+    going-room _ _ _ (at-loop .loop .inv) (at-loop-test .loop-test .taken) refl (at-if1 .if1 .left) (c .before .layer-for .ensures) (c .if2 .taken)
 
 add-count : tie.Need-add-count Inv-loop μ-loop
 add-count c = omega (arith, going-few _ _ _ (c .before .before .before .before .before .before .loop .inv))
 
 add-i-2 : tie.Need-add-i-2 Inv-loop μ-loop
-add-i-2 c = omega (arith, c .before .before .before .before .before .before .loop .inv .room, c .before .before .before .before .before .loop-test .taken)
+add-i-2 c =
+    let at-loop-test = c .before .before .before .before .before in
+    let at-loop = at-loop-test .before in
+    omega (arith, at-loop .loop .inv .room, at-loop-test .loop-test .taken)
 
 loop-again-2 : tie.Need-loop-again-2 Inv-loop μ-loop
-loop-again-2 c = going-new _ _ _ (c .before .before .before .before .before .before .loop .inv) (c .before .before .before .before .before .loop-test .taken) refl (c .before .before .before .if1 .left) (c .before .layer-for .ensures) (c .if2 .taken)
+loop-again-2 c =
+    let at-if1 = c .before .before .before in
+    let at-loop-test = at-if1 .before .before in
+    let at-loop = at-loop-test .before in
+    going-new _ _ _ (at-loop .loop .inv) (at-loop-test .loop-test .taken) refl (at-if1 .if1 .left) (c .before .layer-for .ensures) (c .if2 .taken)
 
 add-i-3 : tie.Need-add-i-3 Inv-loop μ-loop
-add-i-3 c = omega (arith, c .before .before .before .before .before .before .loop .inv .room, c .before .before .before .before .before .loop-test .taken)
+add-i-3 c =
+    let at-loop-test = c .before .before .before .before .before in
+    let at-loop = at-loop-test .before in
+    omega (arith, at-loop .loop .inv .room, at-loop-test .loop-test .taken)
 
 loop-again-3 : tie.Need-loop-again-3 Inv-loop μ-loop
-loop-again-3 c = going-old _ _ _ (c .before .before .before .before .before .before .loop .inv) (c .before .before .before .before .before .loop-test .taken) refl (c .before .before .before .if1 .left) (c .before .layer-for .ensures) (c .if2 .left)
+loop-again-3 c =
+    let at-if1 = c .before .before .before in
+    let at-loop-test = at-if1 .before .before in
+    let at-loop = at-loop-test .before in
+    going-old _ _ _ (at-loop .loop .inv) (at-loop-test .loop-test .taken) refl (at-if1 .if1 .left) (c .before .layer-for .ensures) (c .if2 .left)
 
 same-length : tie.Need-same-length Inv-loop μ-loop
 same-length c = going-size _ _ _ (c .before .loop .inv)

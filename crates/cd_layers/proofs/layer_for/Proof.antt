@@ -17,13 +17,21 @@ loop-holds : tie.Need-loop-holds Inv-loop μ-loop
 loop-holds c = look-start _ _
 
 is-suspicious-requires : tie.Need-is-suspicious-requires Inv-loop μ-loop
-is-suspicious-requires c κs = (c .before .before .before .before .before .pre .0, c .before .before .before .before .before .pre .2 (c .before .before .loop .j), c .before .before .before .before .before .pre .1)
+is-suspicious-requires c κs =
+    let asked = c .before .before .before .before .before in
+    (asked .pre .0, asked .pre .2 (c .before .before .loop .j), asked .pre .1)
 
 loop-again : tie.Need-loop-again Inv-loop μ-loop
-loop-again c = look-on _ _ (c .before .before .before .before .loop .inv) (c .before .before .before .loop-test .taken) (accepts-not _ _ _ _ (c .before .is-suspicious .ensures) (c .if1 .taken))
+loop-again c =
+    let at-loop-test = c .before .before .before in
+    let at-loop = at-loop-test .before in
+    look-on _ _ (at-loop .loop .inv) (at-loop-test .loop-test .taken) (accepts-not _ _ _ _ (c .before .is-suspicious .ensures) (c .if1 .taken))
 
 returns : tie.Need-returns Inv-loop μ-loop
-returns c = layer-joins _ _ _ (c .before .before .before .before .loop .inv) (c .before .before .before .loop-test .taken) (accepts-so _ _ _ _ (c .before .is-suspicious .ensures) (c .if1 .left))
+returns c =
+    let at-loop-test = c .before .before .before in
+    let at-loop = at-loop-test .before in
+    layer-joins _ _ _ (at-loop .loop .inv) (at-loop-test .loop-test .taken) (accepts-so _ _ _ _ (c .before .is-suspicious .ensures) (c .if1 .left))
 
 returns-2 : tie.Need-returns-2 Inv-loop μ-loop
 returns-2 c = layer-own _ _ _ _ (c .before .before .loop .inv) (c .before .loop-test .left) (c .own .ensures)

@@ -24,25 +24,65 @@ loop-holds : tie.Need-loop-holds Inv-loop μ-loop
 loop-holds c = (walk-start _ _ _ _, refl)
 
 cast-at : tie.Need-cast-at Inv-loop μ-loop
-cast-at c = record { fits = omega (arith, c .before .before .before .before .before .before .pre .1 (c .before .before .loop .i) (c .before .loop-test .taken), good-most (now (c .before .before .before .before .before .before .args .languages)) (c .before .before .before .before .before .before .pre .0)) }
+cast-at c =
+    let asked = c .before .before .before .before .before .before in
+    record { fits = omega (arith, asked .pre .1 (c .before .before .loop .i) (c .before .loop-test .taken), good-most (now (asked .args .languages)) (asked .pre .0)) }
 
 slice-aggregate-score-at : tie.Need-slice-aggregate-score-at Inv-loop μ-loop
 slice-aggregate-score-at c = sym (c .before .before .before .loop .inv .1)
 
 score-at-requires : tie.Need-score-at-requires Inv-loop μ-loop
-score-at-requires c κs = (c .before .before .before .before .before .before .before .pre .0, c .before .before .before .before .before .before .before .pre .1 _ (c .before .before .loop-test .taken), c .before .before .before .before .before .before .before .pre .3, omega (arith, c .before .before .before .loop .inv .1))
+score-at-requires c κs =
+    let at-loop = c .before .before .before in
+    let asked = at-loop .before .before .before .before in
+    (asked .pre .0, asked .pre .1 _ (c .before .before .loop-test .taken), asked .pre .3, omega (arith, at-loop .loop .inv .1))
 
 loop-again : tie.Need-loop-again Inv-loop μ-loop
-loop-again c = (walk-below _ _ _ _ (c .before .before .before .before .before .before .loop .inv .0) (c .before .before .before .before .before .loop-test .taken) (scores-length _ _ _) (rw (score-is (now (c .before .before .before .before .before .before .before .before .before .before .args .languages)) (now (c .before .before .before .before .before .before .before .before .before .before .args .order)) (now (c .before .before .before .before .before .before .before .before .before .before .args .records)) (c .before .before .before .before .before .before .loop .i) (c .before .before .before .before .before .loop-test .taken) _ (c .before .before .score-at .ensures)) at (c .if1 .taken)), omega arith)
+loop-again c =
+    let at-loop-test = c .before .before .before .before .before in
+    let at-loop = at-loop-test .before in
+    let asked = at-loop .before .before .before .before in (
+      walk-below _ _ _ _ (at-loop .loop .inv .0) (at-loop-test .loop-test .taken) (scores-length _ _ _)
+          (rw (score-is (now (asked .args .languages)) (now (asked .args .order)) (now (asked .args .records)) (at-loop .loop .i) (at-loop-test .loop-test .taken) _
+          (c .before .before .score-at .ensures)) at (c .if1 .taken)),
+      omega arith,
+    )
 
 keep-requires : tie.Need-keep-requires Inv-loop μ-loop
-keep-requires c κs = (omega (arith, c .before .before .before .before .before .before .before .before .before .before .pre .1 (c .before .before .before .before .before .before .loop .i) (c .before .before .before .before .before .loop-test .taken), good-most (now (c .before .before .before .before .before .before .before .before .before .before .args .languages)) (c .before .before .before .before .before .before .before .before .before .before .pre .0)), omega (arith, c .before .before .before .before .before .before .loop .inv .0 .few, c .before .before .before .before .before .loop-test .taken, c .before .before .before .before .before .before .before .before .before .before .pre .2, c .before .before .before .before .before .before .before .before .before .before .pre .4))
+keep-requires c κs =
+    let at-loop-test = c .before .before .before .before .before in
+    let at-loop = at-loop-test .before in
+    let asked = at-loop .before .before .before .before in (
+      omega (arith, asked .pre .1 (at-loop .loop .i) (at-loop-test .loop-test .taken), good-most (now (asked .args .languages)) (asked .pre .0)),
+      omega
+          (arith, at-loop .loop .inv .0 .few, at-loop-test .loop-test .taken, asked .pre .2, asked .pre .4),
+    )
 
 returns : tie.Need-returns Inv-loop μ-loop
-returns c = walk-ends _ _ _ _ (c .before .before .before .before .before .before .before .before .loop .inv .0) (c .before .before .before .before .before .before .before .loop-test .taken) (scores-length _ _ _) (rw (score-is (now (c .before .before .before .before .before .before .before .before .before .before .before .before .args .languages)) (now (c .before .before .before .before .before .before .before .before .before .before .before .before .args .order)) (now (c .before .before .before .before .before .before .before .before .before .before .before .before .args .records)) (c .before .before .before .before .before .before .before .before .loop .i) (c .before .before .before .before .before .before .before .loop-test .taken) _ (c .before .before .before .before .score-at .ensures)) at (c .before .before .if1 .left)) _ (rw (score-is (now (c .before .before .before .before .before .before .before .before .before .before .before .before .args .languages)) (now (c .before .before .before .before .before .before .before .before .before .before .before .before .args .order)) (now (c .before .before .before .before .before .before .before .before .before .before .before .before .args .records)) (c .before .before .before .before .before .before .before .before .loop .i) (c .before .before .before .before .before .before .before .loop-test .taken) _ (c .before .before .before .before .score-at .ensures)) at (c .before .keep .ensures)) (c .if2 .taken)
+returns c =
+    let at-score-at = c .before .before .before .before in
+    let at-loop-test = at-score-at .before .before .before in
+    let at-loop = at-loop-test .before in
+    let asked = at-loop .before .before .before .before in
+    walk-ends _ _ _ _ (at-loop .loop .inv .0) (at-loop-test .loop-test .taken) (scores-length _ _ _)
+    (rw (score-is (now (asked .args .languages)) (now (asked .args .order)) (now (asked .args .records)) (at-loop .loop .i) (at-loop-test .loop-test .taken) _
+    (at-score-at .score-at .ensures)) at (c .before .before .if1 .left)) _
+    (rw (score-is (now (asked .args .languages)) (now (asked .args .order)) (now (asked .args .records)) (at-loop .loop .i) (at-loop-test .loop-test .taken) _
+    (at-score-at .score-at .ensures)) at (c .before .keep .ensures)) (c .if2 .taken)
 
 loop-again-2 : tie.Need-loop-again-2 Inv-loop μ-loop
-loop-again-2 c = (walk-on _ _ _ _ (c .before .before .before .before .before .before .before .before .loop .inv .0) (c .before .before .before .before .before .before .before .loop-test .taken) (scores-length _ _ _) (rw (score-is (now (c .before .before .before .before .before .before .before .before .before .before .before .before .args .languages)) (now (c .before .before .before .before .before .before .before .before .before .before .before .before .args .order)) (now (c .before .before .before .before .before .before .before .before .before .before .before .before .args .records)) (c .before .before .before .before .before .before .before .before .loop .i) (c .before .before .before .before .before .before .before .loop-test .taken) _ (c .before .before .before .before .score-at .ensures)) at (c .before .before .if1 .left)) _ (rw (score-is (now (c .before .before .before .before .before .before .before .before .before .before .before .before .args .languages)) (now (c .before .before .before .before .before .before .before .before .before .before .before .before .args .order)) (now (c .before .before .before .before .before .before .before .before .before .before .before .before .args .records)) (c .before .before .before .before .before .before .before .before .loop .i) (c .before .before .before .before .before .before .before .loop-test .taken) _ (c .before .before .before .before .score-at .ensures)) at (c .before .keep .ensures)) (c .if2 .left), omega arith)
+loop-again-2 c =
+    let at-score-at = c .before .before .before .before in
+    let at-loop-test = at-score-at .before .before .before in
+    let at-loop = at-loop-test .before in
+    let asked = at-loop .before .before .before .before in (
+      walk-on _ _ _ _ (at-loop .loop .inv .0) (at-loop-test .loop-test .taken) (scores-length _ _ _)
+          (rw (score-is (now (asked .args .languages)) (now (asked .args .order)) (now (asked .args .records)) (at-loop .loop .i) (at-loop-test .loop-test .taken) _
+          (at-score-at .score-at .ensures)) at (c .before .before .if1 .left)) _
+          (rw (score-is (now (asked .args .languages)) (now (asked .args .order)) (now (asked .args .records)) (at-loop .loop .i) (at-loop-test .loop-test .taken) _
+          (at-score-at .score-at .ensures)) at (c .before .keep .ensures)) (c .if2 .left),
+      omega arith,
+    )
 
 returns-2 : tie.Need-returns-2 Inv-loop μ-loop
 returns-2 c = walk-end _ _ _ _ (c .before .loop .inv .0) (c .loop-test .left)

@@ -21,7 +21,10 @@ loop-holds : tie.Need-loop-holds Inv-loop μ-loop
 loop-holds c = filling-start _ _ _ (c .before .before .before .pre .1)
 
 cast-out : tie.Need-cast-out Inv-loop μ-loop
-cast-out c = omega (arith, c .first-record .ensures, first-record-small (now (c .before .before .before .before .before .before .before .args .t)) (getD (now (c .before .before .before .before .before .before .before .args .included)) (c .before .before .before .loop .k) 0), good-most (now (c .before .before .before .before .before .before .before .args .t)) (c .before .before .before .before .before .before .before .pre .0))
+cast-out c =
+    let at-loop = c .before .before .before in
+    let asked = at-loop .before .before .before .before in
+    omega (arith, c .first-record .ensures, first-record-small (now (asked .args .t)) (getD (now (asked .args .included)) (at-loop .loop .k) 0), good-most (now (asked .args .t)) (asked .pre .0))
 
 slice-write-out : tie.Need-slice-write-out Inv-loop μ-loop
 slice-write-out c = filling-room _ _ _ (c .before .before .before .loop .inv) (c .before .before .loop-test .taken)

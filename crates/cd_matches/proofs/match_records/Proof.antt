@@ -6,10 +6,16 @@ use Rattle.cd_matches.proofs.match_records.Statement.{statement}
 use Rattle.cd_matches.proofs.match_records.Tie as tie
 
 returns : tie.Need-returns
-returns c = rw (match-search _ _ _ _ (rw (c .before .before .before .before .before .lone-zero .ensures) at (c .before .before .before .before .if1 .taken)), ← c .before .before .before .before .before .lone-zero .ensures) (c .before .before .alphabet-languages .ensures)
+returns c =
+    let at-if1 = c .before .before .before .before in
+    let at-lone-zero = at-if1 .before in
+    rw (match-search _ _ _ _ (rw (at-lone-zero .lone-zero .ensures) at (at-if1 .if1 .taken)), ← at-lone-zero .lone-zero .ensures) (c .before .before .alphabet-languages .ensures)
 
 returns-2 : tie.Need-returns-2
-returns-2 c = rw (match-given _ _ _ _ (rw (c .before .before .before .before .before .lone-zero .ensures) at (c .before .before .before .before .if1 .left))) (c .before .before .included-records .ensures)
+returns-2 c =
+    let at-if1 = c .before .before .before .before in
+    let at-lone-zero = at-if1 .before in
+    rw (match-given _ _ _ _ (rw (at-lone-zero .lone-zero .ensures) at (at-if1 .if1 .left))) (c .before .before .included-records .ensures)
 
 pub match-records-spec : {M : Type 1} → statement M
 match-records-spec =

@@ -14,10 +14,21 @@ slice-aggregate-compare : tie.Need-slice-aggregate-compare
 slice-aggregate-compare c = put-count (c .before .before .match-records .ensures)
 
 compare-requires : tie.Need-compare-requires
-compare-requires c κs = (c .before .before .before .before .before .before .before .pre .0, front-below _ _ _ _ (c .before .before .before .before .before .before .before .pre .0) (c .before .before .before .before .before .before .before .pre .1) (c .before .before .match-records .ensures), front-few _ _ _ _ (c .before .before .before .before .before .before .before .pre .0) (c .before .before .before .before .before .before .before .pre .1) (c .before .before .match-records .ensures), c .before .before .before .before .before .before .before .pre .2, c .before .before .before .before .before .before .before .pre .3)
+compare-requires c κs =
+    let at-match-records = c .before .before in
+    let asked = at-match-records .before .before .before .before .before in (
+      asked .pre .0,
+      front-below _ _ _ _ (asked .pre .0) (asked .pre .1) (at-match-records .match-records .ensures),
+      front-few _ _ _ _ (asked .pre .0) (asked .pre .1) (at-match-records .match-records .ensures),
+      asked .pre .2,
+      asked .pre .3,
+    )
 
 returns : tie.Need-returns
-returns c = c .compare .ensures ∙ front-read _ _ _ _ (c .before .before .before .before .before .before .before .before .pre .0) (c .before .before .before .before .before .before .before .before .pre .1) (c .before .before .before .match-records .ensures) _ _
+returns c =
+    let at-match-records = c .before .before .before in
+    let asked = at-match-records .before .before .before .before .before in
+    c .compare .ensures ∙ front-read _ _ _ _ (asked .pre .0) (asked .pre .1) (at-match-records .match-records .ensures) _ _
 
 pub read-matches-spec : {M : Type 1} → statement M
 read-matches-spec =

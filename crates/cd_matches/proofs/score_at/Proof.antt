@@ -9,16 +9,27 @@ use Rattle.cd_jaro.specs.Similarity as jaro
 use Rattle.cd_matches.proofs.score_at.Tie as tie
 
 slice-reshare-prefix-similarity : tie.Need-slice-reshare-prefix-similarity
-slice-reshare-prefix-similarity c = read-room _ (c .before .before .before .before .before .before .before .pre .0) _ (c .before .before .before .before .before .before .before .pre .1) _ _ _ (c .before .before .read-letters .ensures)
+slice-reshare-prefix-similarity c =
+    let asked = c .before .before .before .before .before .before .before in
+    read-room _ (asked .pre .0) _ (asked .pre .1) _ _ _ (c .before .before .read-letters .ensures)
 
 slice-aggregate-similarity : tie.Need-slice-aggregate-similarity
-slice-aggregate-similarity c = read-count _ (c .before .before .before .before .before .before .before .before .pre .0) _ (c .before .before .before .before .before .before .before .before .pre .1) _ _ _ (c .before .before .before .read-letters .ensures)
+slice-aggregate-similarity c =
+    let at-read-letters = c .before .before .before in
+    let asked = at-read-letters .before .before .before .before .before in
+    read-count _ (asked .pre .0) _ (asked .pre .1) _ _ _ (at-read-letters .read-letters .ensures)
 
 similarity-requires : tie.Need-similarity-requires
-similarity-requires c κs = (c .before .before .before .before .before .before .before .before .pre .2, read-most _ (c .before .before .before .before .before .before .before .before .pre .0) _ (c .before .before .before .before .before .before .before .before .pre .1) _ _ _ (c .before .before .before .read-letters .ensures))
+similarity-requires c κs =
+    let at-read-letters = c .before .before .before in
+    let asked = at-read-letters .before .before .before .before .before in
+    (asked .pre .2, read-most _ (asked .pre .0) _ (asked .pre .1) _ _ _ (at-read-letters .read-letters .ensures))
 
 returns : tie.Need-returns
-returns c = c .similarity .ensures ∙ ap (jaro.similarity (now (c .before .before .before .before .before .before .before .before .before .args .order))) (read-front _ (c .before .before .before .before .before .before .before .before .before .pre .0) _ (c .before .before .before .before .before .before .before .before .before .pre .1) _ _ _ (c .before .before .before .before .read-letters .ensures))
+returns c =
+    let at-read-letters = c .before .before .before .before in
+    let asked = at-read-letters .before .before .before .before .before in
+    c .similarity .ensures ∙ ap (jaro.similarity (now (asked .args .order))) (read-front _ (asked .pre .0) _ (asked .pre .1) _ _ _ (at-read-letters .read-letters .ensures))
 
 pub score-at-spec : {M : Type 1} → statement M
 score-at-spec =

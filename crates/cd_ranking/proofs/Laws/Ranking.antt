@@ -13,6 +13,7 @@ use lib.ListN.{length, length-map}
 use lib.Dec.{ltb}
 use lib.Ieee.{Float, lt}
 use borrow.Author.Tests.{lt-ltb, ltb-true}
+use Rattle.base.specs.Inner.All.{All}
 use Rattle.base.specs.Limits.{MOST-LANGUAGES}
 use Rattle.base.proofs.Laws.In.{In, in-map}
 use Rattle.cd_languages.specs.Languages.{languages, firstRecord}
@@ -31,29 +32,21 @@ use Rattle.cd_ranking.specs.Inner.Keys.{keyAt}
 use Rattle.cd_ranking.proofs.Laws.Keys.{Rankable, rank-before, keys-rank}
 
 module _ {A : Type 0} where
-  abbrev pub Each : (A → Type 0) → List A → Type 0
-  Each P [] = Unit
-  Each P (x ∷ l) = P x × Each P l
-
   abbrev pub Pairs : (A → A → Type 0) → List A → Type 0
   Pairs R [] = Unit
-  Pairs R (x ∷ l) = Each (R x) l × Pairs R l
-
-  pub each-so : {P Q : A → Type 0} (l : List A) → ((x : A) → P x → Q x) → Each P l → Each Q l
-  each-so [] f e = tt
-  each-so (x ∷ l) f e = (f x (e .0), each-so l f (e .1))
+  Pairs R (x ∷ l) = All (R x) l × Pairs R l
 
 module _ {A : Type 0} (f : ℕ → A) where
-  each-map : (P : A → Type 0) (l : List ℕ) → ((x : ℕ) → In x l → P (f x)) → Each P (map f l)
-  each-map P [] h = tt
-  each-map P (x ∷ l) h = (h x (inl refl), each-map P l (λ y i. h y (inr i)))
+  all-of : (P : A → Type 0) (l : List ℕ) → ((x : ℕ) → In x l → P (f x)) → All P (map f l)
+  all-of P [] h = tt
+  all-of P (x ∷ l) h = (h x (inl refl), all-of P l (λ y i. h y (inr i)))
 
   -- pairs of numbers with rising keys
   pairs-map : (R : A → A → Type 0) (key : ℕ → ℕ) (last : ℕ) (l : List ℕ) → Up last (map key l)
       → ((x y : ℕ) → In x l → In y l → key x < key y → R (f x) (f y)) → Pairs R (map f l)
   pairs-map R key last [] u h = tt
   pairs-map R key last (x ∷ l) u h = (
-    each-map (R (f x)) l (λ y i. h x y (inl refl) (inr i) (up-above (key x) (key y) (map key l) (u .1) (in-map key l y i))),
+    all-of (R (f x)) l (λ y i. h x y (inl refl) (inr i) (up-above (key x) (key y) (map key l) (u .1) (in-map key l y i))),
     pairs-map R key (key x) l (u .1) (λ y z i j. h y z (inr i) (inr j)),
   )
 
@@ -113,10 +106,10 @@ module _ {t : List ℕ} {best : ℕ → Float} {l : List ℕ} (h : Rankable t be
       differ : {a b : ℕ} → a < b → a ≡ b → ⊥
       differ k e = omega arith
 
-  pub ranking-told : Each (Told t best l) (inRank t best l)
+  pub ranking-told : All (Told t best l) (inRank t best l)
   unfolding inRank
   ranking-told =
-      each-map (matchAt t best) (Told t best l) ranks
+      all-of (matchAt t best) (Told t best l) ranks
       (λ r i. rw (known r i .2) (known r i .0, among r i, refl))
 
   pub ranking-all : (r : ℕ) → In r l → In (matchAt t best r) (inRank t best l)

@@ -76,7 +76,8 @@ loop-again c =
     let at-loop = at-loop-test .before in
     let at-letters-start = at-loop .before .before in
     let at-slots = at-letters-start .before in
-    texting-more _ _ _ _ (at-loop .loop .inv) (at-loop-test .loop-test .taken) (at-letters-start .letters-start .ensures ∙ at-slots .slots .ensures) (range-is _ _ _ (at-loop-test .loop-test .taken) (c .letter-of .ensures)) (lower-is _ _ _ (at-loop-test .loop-test .taken) (c .letter-of .ensures))
+    texting-more _ _ _ _ (at-loop .loop .inv) (at-loop-test .loop-test .taken) (at-letters-start .letters-start .ensures ∙ at-slots .slots .ensures)
+    (range-is _ _ _ (at-loop-test .loop-test .taken) (c .letter-of .ensures)) (lower-is _ _ _ (at-loop-test .loop-test .taken) (c .letter-of .ensures))
 
 same-length : tie.Need-same-length Inv-loop μ-loop
 same-length c =

@@ -24,7 +24,10 @@ unfolding firstUnclassed
 loop-holds c = (omega arith, first-start _ _)
 
 is-unclassed-requires : tie.Need-is-unclassed-requires Inv-loop μ-loop
-is-unclassed-requires c κs = (c .before .before .before .before .before .before .before .before .pre, c .before .before .before .before .before .table .ensures)
+is-unclassed-requires c κs =
+    let at-table = c .before .before .before .before .before in
+    let asked = at-table .before .before .before in
+    (asked .pre, at-table .table .ensures)
 
 returns : tie.Need-returns Inv-loop μ-loop
 unfolding unclassedAt

@@ -20,7 +20,10 @@ loop-holds : tie.Need-loop-holds Inv-loop μ-loop
 loop-holds c = accented-start _ _
 
 is-accentuated-requires : tie.Need-is-accentuated-requires Inv-loop μ-loop
-is-accentuated-requires c κs = (c .before .before .before .before .before .before .before .before .pre, c .before .before .before .before .before .table .ensures)
+is-accentuated-requires c κs =
+    let at-table = c .before .before .before .before .before in
+    let asked = at-table .before .before .before in
+    (asked .pre, at-table .table .ensures)
 
 returns : tie.Need-returns Inv-loop μ-loop
 returns c =

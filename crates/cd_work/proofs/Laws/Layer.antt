@@ -1,14 +1,13 @@
 -- The two parts of the layer that is read: `layer-size`, `-text`, `-lacks`, `-order`, `-back` of an area into which both were put; `layer-layer`,
--- `layer-again`: both put once more; `layer-kept`: nothing else has changed. And `put-forgets`, of a list that is put over the front.
+-- `layer-again`: both put once more; `layer-kept`: nothing else has changed.
 -- Assumes nothing.
 use Prim.Native.Nat.{ℕ, _+_, _-_, _≤_}
-use mathlib.Core.Path.{_≡_, refl, sym, ap, _∙_}
+use mathlib.Core.Path.{_≡_, refl, _∙_}
 use mathlib.Core.List.{List, [], _++_, append-nil}
 use native.Mathlib.Omega.{arith}
 use lib.ListN.{length, take, drop, length-append, length-drop, drop-of-length-le}
-use lib.Seq.{drop-drop}
 use Rattle.base.specs.Put.{put}
-use Rattle.base.proofs.Laws.Put.{put-first, put-length, put-front, put-part, put-beyond, put-nothing, put-over, put-swap}
+use Rattle.base.proofs.Laws.Put.{put-length, put-front, put-part, put-beyond, put-nothing, put-over, put-swap}
 use Rattle.cd_work.specs.Inner.Layout.{words, lacksStart, orderStart}
 use Rattle.cd_work.specs.Inner.Parts.{lacksIn, orderIn, withLayer, Kept}
 
@@ -79,12 +78,3 @@ kept-same n w = record { size = refl; text = refl; back = refl }
 
 pub kept-on : {n : ℕ} {w v u : List ℕ} → Kept n w v → Kept n v u → Kept n w u
 kept-on a b = record { size = b .size ∙ a .size; text = b .text ∙ a .text; back = b .back ∙ a .back }
-
--- a list put over the front leaves nothing of it
-pub put-forgets : (u w l : List ℕ) (k : ℕ) → k ≤ length l → drop k u ≡ drop k w → put u 0 l ≡ put w 0 l
-put-forgets u w l k h e = put-first u l ∙ ap (λ (v : List ℕ). l ++ v) behind ∙ sym (put-first w l)
-  where
-    behind : drop (length l) u ≡ drop (length l) w
-    behind =
-        let m : k + (length l - k) ≡ length l = omega arith in
-        rw (← m) (sym (drop-drop (length l - k) k u) ∙ ap (drop (length l - k)) e ∙ drop-drop (length l - k) k w)

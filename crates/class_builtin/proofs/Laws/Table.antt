@@ -17,7 +17,8 @@ use Rattle.base.specs.Tests.{implies, same, scalar}
 use Rattle.base.proofs.Laws.Tests.{and-l, and-r, or-l, same-true, implies-true}
 use Rattle.class_builtin.specs.Words.{flagWords, rangeNumbers, bases, lowers}
 use Rattle.class_builtin.specs.Table.{entryAt}
-use Rattle.class_builtin.proofs.Laws.TableRule.{isAscii, isAsciiLetter, isAsciiGraphic, isAsciiDigit, CONTROL-CHARACTERS, BASIC-LATIN, LATIN-1-SUPPLEMENT, LATIN-EXTENDED-A, LATIN-EXTENDED-B, rangeOf, Lawful}
+use Rattle.class_builtin.proofs.Laws.TableRule.{isAscii, isAsciiLetter, isAsciiGraphic, isAsciiDigit, CONTROL-CHARACTERS, BASIC-LATIN}
+use Rattle.class_builtin.proofs.Laws.TableRule.{LATIN-1-SUPPLEMENT, LATIN-EXTENDED-A, LATIN-EXTENDED-B, rangeOf, Lawful}
 
 -- the rule as a test of each list: of the code point p and the number that the list has for it
 unfoldable asciiTest : ℕ → ℕ → Bool

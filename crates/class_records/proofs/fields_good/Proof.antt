@@ -8,7 +8,9 @@ use Rattle.class_records.proofs.fields_good.Tie as tie
 
 returns : tie.Need-returns
 unfolding goodFields
-returns c = cc (word (c .before .before .before .before .before .args .r .range) (c .before .before .before .before .before .args .r .zero))
+returns c =
+    let asked = c .before .before .before .before .before in
+    cc (word (asked .args .r .range) (asked .args .r .zero))
 
 pub fields-good-spec : {M : Type 1} → statement M
 fields-good-spec =

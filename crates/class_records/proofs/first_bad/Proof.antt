@@ -20,7 +20,13 @@ record-at-requires : tie.Need-record-at-requires Inv-loop μ-loop
 record-at-requires c κs = omega arith
 
 returns : tie.Need-returns Inv-loop μ-loop
-returns c = walked-bad _ _ _ (c .before .before .before .before .before .before .loop .inv) (c .before .before .before .before .before .loop-test .taken) (rw (c .before .fields-good .ensures, c .before .before .before .span-after .ensures, c .before .before .before .before .record-at .ensures) at (c .if1 .taken))
+returns c =
+    let at-span-after = c .before .before .before in
+    let at-record-at = at-span-after .before in
+    let at-loop-test = at-record-at .before in
+    let at-loop = at-loop-test .before in
+    walked-bad _ _ _ (at-loop .loop .inv) (at-loop-test .loop-test .taken)
+    (rw (c .before .fields-good .ensures, at-span-after .span-after .ensures, at-record-at .record-at .ensures) at (c .if1 .taken))
 
 add-i : tie.Need-add-i Inv-loop μ-loop
 add-i c = omega arith
@@ -29,7 +35,13 @@ loop-less : tie.Need-loop-less Inv-loop μ-loop
 loop-less c = omega arith
 
 loop-again : tie.Need-loop-again Inv-loop μ-loop
-loop-again c = rw (c .before .before .before .before .record-at .ensures) (walked-more _ _ _ (c .before .before .before .before .before .before .loop .inv) (c .before .before .before .before .before .loop-test .taken) (rw (c .before .fields-good .ensures, c .before .before .before .span-after .ensures, c .before .before .before .before .record-at .ensures) at (c .if1 .left)))
+loop-again c =
+    let at-span-after = c .before .before .before in
+    let at-record-at = at-span-after .before in
+    let at-loop-test = at-record-at .before in
+    let at-loop = at-loop-test .before in
+    rw (at-record-at .record-at .ensures) (walked-more _ _ _ (at-loop .loop .inv) (at-loop-test .loop-test .taken)
+    (rw (c .before .fields-good .ensures, at-span-after .span-after .ensures, at-record-at .record-at .ensures) at (c .if1 .left)))
 
 returns-2 : tie.Need-returns-2 Inv-loop μ-loop
 returns-2 c = walked-end _ _ _ (c .before .loop .inv) (c .loop-test .left)

@@ -26,7 +26,10 @@ loop-less : tie.Need-loop-less Inv-loop μ-loop
 loop-less c = omega arith
 
 loop-again : tie.Need-loop-again Inv-loop μ-loop
-loop-again c = rw (c .fields-good .ensures, c .before .span-after .ensures, c .before .before .record-at .ensures) (reduced-more _ _ _ _ (c .before .before .before .before .loop .inv) (c .before .before .before .loop-test .taken))
+loop-again c =
+    let at-loop-test = c .before .before .before in
+    let at-loop = at-loop-test .before in
+    rw (c .fields-good .ensures, c .before .span-after .ensures, c .before .before .record-at .ensures) (reduced-more _ _ _ _ (at-loop .loop .inv) (at-loop-test .loop-test .taken))
 
 returns : tie.Need-returns Inv-loop μ-loop
 returns c = reduced-end _ _ _ _ (c .before .loop .inv) (c .loop-test .left)

@@ -6,7 +6,12 @@ use Rattle.class_records.proofs.record_at.Statement.{statement}
 use Rattle.class_records.proofs.record_at.Tie as tie
 
 returns : tie.Need-returns
-returns c = record-of _ _ _ _ _ _ _ _ (c .before .before .before .before .u32-at2 .ensures) (c .before .before .before .u32-at3 .ensures) (c .before .before .u32-at4 .ensures) (c .before .before .before .before .before .u32-at .ensures) (c .before .u32-at5 .ensures) (c .u32-at6 .ensures)
+returns c =
+    let at-u32-at3 = c .before .before .before in
+    let at-u32-at2 = at-u32-at3 .before in
+    let at-u32-at = at-u32-at2 .before in
+    record-of _ _ _ _ _ _ _ _ (at-u32-at2 .u32-at2 .ensures) (at-u32-at3 .u32-at3 .ensures) (c .before .before .u32-at4 .ensures) (at-u32-at .u32-at .ensures)
+    (c .before .u32-at5 .ensures) (c .u32-at6 .ensures)
 
 pub record-at-spec : {M : Type 1} → statement M
 record-at-spec =

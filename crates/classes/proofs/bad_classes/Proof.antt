@@ -18,10 +18,18 @@ returns-2 : tie.Need-returns-2
 returns-2 c = c .refuse2 .ensures ∙ sym (number-refused _ (c .before .before .if1 .left) (c .before .if2 .taken))
 
 cast-refuse : tie.Need-cast-refuse
-cast-refuse c = omega (arith, c .first-bad .ensures, first-bad-small (now (c .before .before .before .before .before .before .args .classes)), c .before .before .before .if2 .left)
+cast-refuse c =
+    let at-if2 = c .before .before .before in
+    let asked = at-if2 .before .before .before in
+    omega (arith, c .first-bad .ensures, first-bad-small (now (asked .args .classes)), at-if2 .if2 .left)
 
 returns-3 : tie.Need-returns-3
-returns-3 c = c .refuse3 .ensures ∙ ap (refusedAt BAD-CLASSES) (c .before .first-bad .ensures) ∙ sym (record-refused _ (c .before .before .before .before .before .if1 .left) (c .before .before .before .before .if2 .left) (sym (c .before .before .before .none-bad .ensures) ∙ not-true _ (c .before .before .if3 .taken)))
+returns-3 c =
+    let at-none-bad = c .before .before .before in
+    let at-if2 = at-none-bad .before in
+    let at-if1 = at-if2 .before in
+    c .refuse3 .ensures ∙ ap (refusedAt BAD-CLASSES) (c .before .first-bad .ensures) ∙ sym
+    (record-refused _ (at-if1 .if1 .left) (at-if2 .if2 .left) (sym (at-none-bad .none-bad .ensures) ∙ not-true _ (c .before .before .if3 .taken)))
 
 returns-4 : tie.Need-returns-4
 returns-4 c = sym (passed _ (c .before .before .before .if1 .left) (c .before .before .if2 .left) (sym (c .before .none-bad .ensures) ∙ not-false _ (c .if3 .left)))

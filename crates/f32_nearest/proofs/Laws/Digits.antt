@@ -5,7 +5,8 @@ use Prim.Native.Nat.{ℕ, suc, _+_, _-_, _*_, _/_, _^_, _≤_, _<_}
 use mathlib.Core.Path.{_≡_, refl, sym, ap, _∙_}
 use mathlib.Core.Logic.{inl, inr}
 use mathlib.Core.Bool.{false}
-use native.Mathlib.Nat.{le-antisymm, suc-add, le-trans, le-of-eq, lt-of-not-le, not-le-of-lt, lt-of-lt-of-le, eq-or-lt-of-le, mul-assoc, mul-comm, mul-left-comm, mul-le-mul-right, mul-pos, mul-div-cancel}
+use native.Mathlib.Nat.{le-antisymm, suc-add, le-trans, le-of-eq, lt-of-not-le, not-le-of-lt, lt-of-lt-of-le, eq-or-lt-of-le, mul-assoc, mul-comm}
+use native.Mathlib.Nat.{mul-left-comm, mul-le-mul-right, mul-pos, mul-div-cancel}
 use native.Mathlib.Omega.{arith}
 use lib.Dec.{lit<}
 use lib.Pow.{pow-add, pow-pos, pow-mono, shl-lt, shl-shr}

@@ -11,7 +11,8 @@ use Rattle.base.specs.Numbers.{bump}
 use Rattle.base.specs.Refusals.{ACCEPTED}
 use Rattle.base.specs.declared.Refusal.{Refusal}
 use Rattle.ratio.specs.declared.Ratios.{Ratios}
-use Rattle.ratio.specs.Rounded.{ZERO, noRatios, bitsOf, bits}
+use Rattle.ratio.specs.Rounded.{ZERO, bitsOf}
+use Rattle.ratio.specs.Eight.{noRatios, bits}
 use Rattle.md.specs.declared.Score.{Score}
 use Rattle.md.specs.declared.Scored.{Scored}
 use Rattle.md.specs.declared.Scored.the-variants.{Score as Told, Refused as Unscored}

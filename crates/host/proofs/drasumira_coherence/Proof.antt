@@ -121,7 +121,22 @@ module _ {M : Type 1} (𝓤 : URA M) (H : Heap 𝓤) (A : Atoms 𝓤) (W : Given
       shares-but-last 6 qs,
       tt,
       (text, (threshold, (b .0, (b .1 .0, (b .1 .1 .0, (b .1 .1 .1 .0, (b .1 .1 .1 .1 .0, (work b, (room b, tt))))))))),
-      (val text ∷ [], (vfloat binary32 threshold ∷ [], (vint w32 (b .0) ∷ [], (val (b .1 .0) ∷ [], (val (b .1 .1 .0) ∷ [], (val (b .1 .1 .1 .0) ∷ [], (val (b .1 .1 .1 .1 .0) ∷ [], (val (work b) ∷ [], (vint w64 (room b) ∷ [], tt))))))))),
+      (
+        val text ∷ [],
+        (
+          vfloat binary32 threshold ∷ [],
+          (
+            vint w32 (b .0) ∷ [],
+            (
+              val (b .1 .0) ∷ [],
+              (
+                val (b .1 .1 .0) ∷ [],
+                (val (b .1 .1 .1 .0) ∷ [], (val (b .1 .1 .1 .1 .0) ∷ [], (val (work b) ∷ [], (vint w64 (room b) ∷ [], tt)))),
+              ),
+            ),
+          ),
+        ),
+      ),
     ),
     tt,
   )
@@ -129,10 +144,12 @@ module _ {M : Type 1} (𝓤 : URA M) (H : Heap 𝓤) (A : Atoms 𝓤) (W : Given
   asks-ratio : ent 𝓤 (⋆ 𝓤 H A (raw (alive 𝓤 H A f.signature κs qs) ∷ ‵ Owned ∷ [])) (sep 𝓤 (Ratio 𝓤 H A at-mem run .pre to-ratio) (⋆ 𝓤 H A (‵ (flft κ q) ∷ ‵ OwnM ∷ [])))
   asks-ratio =
       qed W (raw (alive 𝓤 H A f.signature κs qs) ∷ ‵ Owned ∷ []) ∵ use1 W (others ⊛ ‵ (flft κ q)) (apart 𝓤 A 6 κs qs) $ split ! $ move ! (2 ∷ []) $
-      fsplit ! $ move ! (1 ∷ []) $ fsplit ! $ move ! (1 ∷ []) $ fsplit ! $ move ! (1 ∷ []) $ fsplit ! $ move ! (1 ∷ []) $ fsplit ! $ move ! (1 ∷ []) $ fsplit ! $ move ! (1 ∷ []) $ fsplit ! $ move ! (1 ∷ []) $ fsplit ! $ move ! (1 ∷ []) $ fsplit ! $ move ! (1 ∷ []) $
+      fsplit ! $ move ! (1 ∷ []) $ fsplit ! $ move ! (1 ∷ []) $ fsplit ! $ move ! (1 ∷ []) $ fsplit ! $ move ! (1 ∷ []) $ fsplit ! $ move ! (1 ∷ []) $
+      fsplit ! $ move ! (1 ∷ []) $ fsplit ! $ move ! (1 ∷ []) $ fsplit ! $ move ! (1 ∷ []) $ fsplit ! $ move ! (1 ∷ []) $
       -- [true; what is owned, from the list of matches to the text; the others' tokens; the list's]
       owned ! usize (Is usize) (uint-makes 𝓤 H A W w64) (room b) _ (refl, listed .0) $ fjoin ! $
-      move ! (2 ∷ 0 ∷ []) $ fjoin ! $ move ! (2 ∷ 0 ∷ []) $ fjoin ! $ move ! (2 ∷ 0 ∷ []) $ fjoin ! $ move ! (2 ∷ 0 ∷ []) $ fjoin ! $ move ! (2 ∷ 0 ∷ []) $ fjoin ! $ move ! (2 ∷ 0 ∷ []) $ fjoin ! $ move ! (2 ∷ 0 ∷ []) $ fjoin ! $ move ! (2 ∷ 0 ∷ []) $ fjoin ! $
+      move ! (2 ∷ 0 ∷ []) $ fjoin ! $ move ! (2 ∷ 0 ∷ []) $ fjoin ! $ move ! (2 ∷ 0 ∷ []) $ fjoin ! $ move ! (2 ∷ 0 ∷ []) $ fjoin ! $ move ! (2 ∷ 0 ∷ []) $
+      fjoin ! $ move ! (2 ∷ 0 ∷ []) $ fjoin ! $ move ! (2 ∷ 0 ∷ []) $ fjoin ! $ move ! (2 ∷ 0 ∷ []) $ fjoin ! $
       move ! (2 ∷ 0 ∷ []) $ join ! $ nothing ! $ move ! (1 ∷ 0 ∷ []) $ join ! $ frame ! $ move ! (1 ∷ 0 ∷ []) $ done !
 
   abbrev Told : Ranking → List ℕ → Type 0
@@ -145,7 +162,8 @@ module _ {M : Type 1} (𝓤 : URA M) (H : Heap 𝓤) (A : Atoms 𝓤) (W : Given
   says-ratio r = exE 𝓤 _ (λ ls.
       qed W (‵ (lasts ratio.ended (to-ratio .0 .0) (to-ratio .0 .3) ls) ∷ raw (fact 𝓤 _) ∷ raw (fact 𝓤 _) ∷ []) ∵
       fsplit ! $ drop ! $ fsplit ! $ drop ! $ fsplit ! $ drop ! $ fsplit ! $ drop ! $ fsplit ! $ drop ! $ fsplit ! $ drop ! $ fsplit ! $ drop ! $ fsplit ! $ fsplit ! $ move ! (1 ∷ []) $
-      feqL ! (λ l. move ! (2 ∷ 3 ∷ []) $ heard ! _ (λ x. heard ! _ (λ y. show ! (λ (ws : List ℕ). mean 𝓤 H A (Ranked r ws)) (ls .1 .1 .1 .1 .1 .1 .1 .0) $ says ! (x, y, l) $ keep ! (0 ∷ []) $ done !))))
+      feqL ! (λ l. move ! (2 ∷ 3 ∷ []) $ heard ! _ (λ x. heard ! _ (λ y. show ! (λ (ws : List ℕ). mean 𝓤 H A (Ranked r ws)) (ls .1 .1 .1 .1 .1 .1 .1 .0) $
+      says ! (x, y, l) $ keep ! (0 ∷ []) $ done !))))
 
   -- what `put` is passed, and what it says
   abbrev to-put : Ranking → Val → Put 𝓤 H A at-mem run .Ghost
@@ -155,7 +173,9 @@ module _ {M : Type 1} (𝓤 : URA M) (H : Heap 𝓤) (A : Atoms 𝓤) (W : Given
   fits r e = rw e (ratio-fits (text .now) threshold (b .0) (b .1 .0 .now) (b .1 .1 .0 .now) (b .1 .1 .1 .0 .now) (b .1 .1 .1 .1 .0 .now) (length (work b .now)) (room b))
 
   asks-put : (r : Ranking) (v : Val) → r ≡ found (text .now) threshold b → ent 𝓤 (⋆ 𝓤 H A (‵ (flft κ q) ∷ ‵ OwnM ∷ ‵ (R.the-row .own r (v ∷ [])) ∷ [])) (Put 𝓤 H A at-mem run .pre (to-put r v))
-  asks-put r v e = qed W (‵ (flft κ q) ∷ ‵ OwnM ∷ ‵ (R.the-row .own r (v ∷ [])) ∷ []) ∵ says ! (fits r e) $ nothing ! $ move ! (1 ∷ 0 ∷ []) $ join ! $ nothing ! $ move ! (3 ∷ 0 ∷ []) $ fjoin ! $ move ! (2 ∷ 0 ∷ []) $ fjoin ! $ move ! (1 ∷ 0 ∷ []) $ done !
+  asks-put r v e =
+      qed W (‵ (flft κ q) ∷ ‵ OwnM ∷ ‵ (R.the-row .own r (v ∷ [])) ∷ []) ∵ says ! (fits r e) $ nothing ! $ move ! (1 ∷ 0 ∷ []) $ join ! $ nothing ! $
+      move ! (3 ∷ 0 ∷ []) $ fjoin ! $ move ! (2 ∷ 0 ∷ []) $ fjoin ! $ move ! (1 ∷ 0 ∷ []) $ done !
 
   abbrev PutTold : Ranking → HostRanking → List CoherenceMatch → Type 0
   PutTold r w ms = (w ≡ answerOf r) × (ms ≡ putAt (matches b .now) 0 (matchesIn r)) × (length ms ≡ room b)
@@ -172,53 +192,81 @@ module _ {M : Type 1} (𝓤 : URA M) (H : Heap 𝓤) (A : Atoms 𝓤) (W : Given
       → ent 𝓤 (⋆ 𝓤 H A (‵ (finally u32 (work b .name) ws) ∷ ‵ (finally T.the-row (matches b .name) ms) ∷ others ∷ (‵ (flft κ q) ⊛ ‵ ftrue) ∷ ‵ (N.the-row .own w (u ∷ [])) ∷ [])) (Post u)
   exits r w u ws ms h e =
       qed W (‵ (finally u32 (work b .name) ws) ∷ ‵ (finally T.the-row (matches b .name) ms) ∷ others ∷ (‵ (flft κ q) ⊛ ‵ ftrue) ∷ ‵ (N.the-row .own w (u ∷ [])) ∷ []) ∵
-      suffices ! _ (ends-at 𝓤 H A f.ended stayed (f.clauses 𝓤 H A at-mem run) W ((κs, qs, bounds, a, at), tt) u w (tt, (tt, (tt, (tt, (tt, (tt, (tt, (ws, (ms, tt))))))))) (tt, (tt, (tt, (tt, (tt, (tt, (tt, (h .2, (e .2, tt)))))))))) $
+      suffices ! _ (ends-at 𝓤 H A f.ended stayed (f.clauses 𝓤 H A at-mem run) W ((κs, qs, bounds, a, at), tt) u w
+      (tt, (tt, (tt, (tt, (tt, (tt, (tt, (ws, (ms, tt))))))))) (tt, (tt, (tt, (tt, (tt, (tt, (tt, (h .2, (e .2, tt)))))))))) $
       use2 W (‵ (hasOf κs rest rest-kept rest-stays b (tt, (tt, (tt, (tt, (tt, (ws, (ms, tt))))))) (at .1 .1))) (rest-had 𝓤 H A W κs b (at .1 .1) ws ms) $ nothing ! $ fjoin ! $ nothing ! $ fjoin ! $
       move ! (1 ∷ 2 ∷ []) $ use2 W (raw (alive 𝓤 H A f.signature κs qs)) (together 𝓤 A 6 κs qs) $ move ! (1 ∷ 2 ∷ []) $ join ! $ move ! (1 ∷ 0 ∷ []) $ join ! $ frame ! $
-      by ! (both 𝓤 _ _ (factI 𝓤 _ (emp 𝓤) (e .0 ∙ ap answerOf (h .0) ∙ ratio-answer (text .now) threshold (b .0) (b .1 .0 .now) (b .1 .1 .0 .now) (b .1 .1 .1 .0 .now) (b .1 .1 .1 .1 .0 .now) (length (work b .now)) (matches b .now))) (both 𝓤 _ _ (factI 𝓤 _ (emp 𝓤) (h .1)) (factI 𝓤 _ (emp 𝓤) (e .1 ∙ ap (λ (y : Ranking). putAt (matches b .now) 0 (matchesIn y)) (h .0)
+      by ! (both 𝓤 _ _ (factI 𝓤 _ (emp 𝓤) (e .0 ∙ ap answerOf (h .0) ∙ ratio-answer (text .now) threshold (b .0) (b .1 .0 .now) (b .1 .1 .0 .now)
+      (b .1 .1 .1 .0 .now) (b .1 .1 .1 .1 .0 .now) (length (work b .now)) (matches b .now)))
+      (both 𝓤 _ _ (factI 𝓤 _ (emp 𝓤) (h .1)) (factI 𝓤 _ (emp 𝓤) (e .1 ∙ ap (λ (y : Ranking). putAt (matches b .now) 0 (matchesIn y)) (h .0)
       ∙ ratio-after (text .now) threshold (b .0) (b .1 .0 .now) (b .1 .1 .0 .now) (b .1 .1 .1 .0 .now) (b .1 .1 .1 .1 .0 .now) (length (work b .now)) (matches b .now)))))
 
-  module _ (C : Calls 𝓤 H) (Λ : Loops 𝓤 H) (fm : FmC 𝓤 H (W .laws) C) (known-ratio : Triple 𝓤 (C #cd·coherence-ratio) (Ratio 𝓤 H A at-mem run)) (known-put : Triple 𝓤 (C #cd_list·put) (Put 𝓤 H A at-mem run)) where
+  module _ (C : Calls 𝓤 H) (Λ : Loops 𝓤 H) (fm : FmC 𝓤 H (W .laws) C) (known-ratio : Triple 𝓤 (C #cd·coherence-ratio) (Ratio 𝓤 H A at-mem run))
+      (known-put : Triple 𝓤 (C #cd_list·put) (Put 𝓤 H A at-mem run)) where
     abbrev passed : List Val
     passed = flat (typesAt (f.signature .params) κs) at
 
     walk : ent 𝓤 (onEntry 𝓤 H A f.signature κs qs a at) (WpFn 𝓤 H C Λ code.function passed Post)
     walk =
         qed W (raw (alive 𝓤 H A f.signature κs qs) ∷ ‵ Owned ∷ []) ∵ enter ! C Λ code.function passed _ $
-        alloc1 ! (λ l₀. alloc1 ! (λ l₁. alloc1 ! (λ l₂. alloc1 ! (λ l₃. alloc1 ! (λ l₄. alloc1 ! (λ l₅. alloc1 ! (λ l₆. alloc1 ! (λ l₇. alloc1 ! (λ l₈. alloc1 ! (λ l₉. alloc1 ! (λ l₁₀. alloc1 ! (λ l₁₁. alloc1 ! (λ l₁₂. alloc1 ! (λ l₁₃. alloc1 ! (λ l₁₄. alloc1 ! (λ l₁₅. alloc0 ! $ params1 ! $
-        pass1 ! (init ! 28 refl (tt, (tt, (record { fits = text-room .0 }, tt)))) $ pass1 ! (init ! 26 refl (float-lawful 𝓤 H A W binary32 .typed threshold _ threshold-is .0)) $ pass1 ! (init ! 24 refl (tt, record { fits = are .0 .1 })) $
-        pass1 ! (init ! 22 refl (tt, (tt, (record { fits = are .1 .0 .0 .1 .0 }, tt)))) $ pass1 ! (init ! 20 refl (tt, (tt, (record { fits = are .1 .1 .0 .0 .1 .0 }, tt)))) $ pass1 ! (init ! 18 refl (tt, (tt, (record { fits = are .1 .1 .1 .0 .0 .1 .0 }, tt)))) $
-        pass1 ! (init ! 16 refl (tt, (tt, (record { fits = are .1 .1 .1 .1 .0 .0 .1 .0 }, tt)))) $ pass1 ! (init ! 14 refl (tt, (tt, (record { fits = are .1 .1 .1 .1 .1 .0 .0 .1 .0 }, tt)))) $ pass1 ! (init ! 12 refl (tt, (tt, (record { fits = listed .0 }, tt)))) $ pass0 ! $
+        alloc1 ! (λ l₀. alloc1 ! (λ l₁. alloc1 ! (λ l₂. alloc1 ! (λ l₃. alloc1 !
+        (λ l₄. alloc1 ! (λ l₅. alloc1 ! (λ l₆. alloc1 ! (λ l₇. alloc1 !
+        (λ l₈. alloc1 ! (λ l₉. alloc1 ! (λ l₁₀. alloc1 ! (λ l₁₁. alloc1 ! (λ l₁₂. alloc1 ! (λ l₁₃. alloc1 ! (λ l₁₄. alloc1 ! (λ l₁₅. alloc0 ! $ params1 ! $
+        pass1 ! (init ! 28 refl (tt, (tt, (record { fits = text-room .0 }, tt)))) $
+        pass1 ! (init ! 26 refl (float-lawful 𝓤 H A W binary32 .typed threshold _ threshold-is .0)) $
+        pass1 ! (init ! 24 refl (tt, record { fits = are .0 .1 })) $
+        pass1 ! (init ! 22 refl (tt, (tt, (record { fits = are .1 .0 .0 .1 .0 }, tt)))) $
+        pass1 ! (init ! 20 refl (tt, (tt, (record { fits = are .1 .1 .0 .0 .1 .0 }, tt)))) $
+        pass1 ! (init ! 18 refl (tt, (tt, (record { fits = are .1 .1 .1 .0 .0 .1 .0 }, tt)))) $
+        pass1 ! (init ! 16 refl (tt, (tt, (record { fits = are .1 .1 .1 .1 .0 .0 .1 .0 }, tt)))) $
+        pass1 ! (init ! 14 refl (tt, (tt, (record { fits = are .1 .1 .1 .1 .1 .0 .0 .1 .0 }, tt)))) $
+        pass1 ! (init ! 12 refl (tt, (tt, (record { fits = listed .0 }, tt)))) $ pass0 ! $
         -- [_15; …; _14; …; and so on to room for _0; …; the tokens; what is owned]
         assigns ! (addr ! (from ! (fld ! refl (hop ! (look-in ! 14 (sub ! 0 refl (whole !))) (stop !))))) (from ! (stop !)) (init ! 8 refl (tt, tt)) $
-        assigns ! (agg ! (and-then ! (load ! (from ! (stop !)) (look ! 8 refl)) (and-then ! (load ! (from ! (fld ! refl (stop !))) (look-in ! 14 (sub ! 1 refl (whole !)))) (no-more !)))) (from ! (stop !)) (init ! 6 refl (tt, (tt, (record { fits = are .1 .1 .1 .1 .1 .0 .0 .1 .0 }, tt)))) $
+        assigns ! (agg ! (and-then ! (load ! (from ! (stop !)) (look ! 8 refl))
+        (and-then ! (load ! (from ! (fld ! refl (stop !))) (look-in ! 14 (sub ! 1 refl (whole !)))) (no-more !)))) (from ! (stop !))
+        (init ! 6 refl (tt, (tt, (record { fits = are .1 .1 .1 .1 .1 .0 .0 .1 .0 }, tt)))) $
         assigns ! (of-opd ! (load ! (from ! (fld ! refl (stop !))) (look-in ! 12 (sub ! 1 refl (whole !))))) (from ! (stop !)) (init ! 4 refl (tt, record { fits = listed .0 })) $
         -- all but the list of matches goes to `coherence_ratio`
         move ! (32 ∷ 33 ∷ []) $ use2 W (raw (Ratio 𝓤 H A at-mem run .pre to-ratio) ⊛ (‵ (flft κ q) ⊛ ‵ OwnM)) asks-ratio $ split ! $ move ! (1 ∷ []) $ split ! $ move ! (2 ∷ []) $
         calls-at ! fm (Ratio 𝓤 H A at-mem run) known-ratio to-ratio
-        (and-then ! (load ! (from ! (stop !)) (look ! 31 refl)) (and-then ! (load ! (from ! (stop !)) (look ! 29 refl)) (and-then ! (load ! (from ! (stop !)) (look ! 27 refl)) (and-then ! (load ! (from ! (stop !)) (look ! 25 refl))
-        (and-then ! (load ! (from ! (stop !)) (look ! 23 refl)) (and-then ! (load ! (from ! (stop !)) (look ! 21 refl)) (and-then ! (load ! (from ! (stop !)) (look ! 19 refl)) (and-then ! (load ! (from ! (stop !)) (look ! 9 refl))
+        (and-then ! (load ! (from ! (stop !)) (look ! 31 refl))
+        (and-then ! (load ! (from ! (stop !)) (look ! 29 refl))
+        (and-then ! (load ! (from ! (stop !)) (look ! 27 refl)) (and-then ! (load ! (from ! (stop !)) (look ! 25 refl))
+        (and-then ! (load ! (from ! (stop !)) (look ! 23 refl))
+        (and-then ! (load ! (from ! (stop !)) (look ! 21 refl))
+        (and-then ! (load ! (from ! (stop !)) (look ! 19 refl)) (and-then ! (load ! (from ! (stop !)) (look ! 9 refl))
         (and-then ! (load ! (from ! (stop !)) (look ! 7 refl)) (no-more !)))))))))) (λ v.
-        use1 W (later (some (λ (r : Ranking). (others ⊛ ‵ (R.the-row .own r (v ∷ []))) ⊛ raw (ensured 𝓤 H A ratio.ended (ratio.clauses 𝓤 H A at-mem run) (to-ratio .0 .0) (to-ratio .0 .3) tt r)))) (id⊢ 𝓤 _) $ await ! tt $ pick ! (λ r.
+        use1 W (later (some (λ (r : Ranking). (others ⊛ ‵ (R.the-row .own r (v ∷ [])))
+        ⊛ raw (ensured 𝓤 H A ratio.ended (ratio.clauses 𝓤 H A at-mem run) (to-ratio .0 .0) (to-ratio .0 .3) tt r)))) (id⊢ 𝓤 _) $ await ! tt $ pick ! (λ r.
         split ! $ move ! (1 ∷ []) $ use1 W (some (Ranked r)) (says-ratio r) $ pick ! (λ ws. split ! $ move ! (1 ∷ []) $ heard ! (Told r ws) (λ h.
         move ! (1 ∷ []) $ split ! $ move ! (1 ∷ []) $ peeks ! R.the-row (Is R.the-row) (shows 𝓤 H A R.the-row) r (v ∷ []) (λ r-is.
         -- [what the ranking owns; the others' tokens; the last work area; the list's token; what the list owns; _15; …]
         land ! (from ! (stop !)) (init ! 15 refl (LL.lawful R.the-type R′.the-laws 𝓤 H A W .typed r _ r-is .0)) $
         assigns ! (addr ! (from ! (fld ! refl (hop ! (look-in ! 17 (sub ! 0 refl (whole !))) (stop !))))) (from ! (stop !)) (init ! 7 refl (tt, tt)) $
-        assigns ! (agg ! (and-then ! (load ! (from ! (stop !)) (look ! 7 refl)) (and-then ! (load ! (from ! (fld ! refl (stop !))) (look-in ! 17 (sub ! 1 refl (whole !)))) (no-more !)))) (from ! (stop !)) (init ! 5 refl (tt, (tt, (record { fits = listed .0 }, tt)))) $
+        assigns ! (agg ! (and-then ! (load ! (from ! (stop !)) (look ! 7 refl))
+        (and-then ! (load ! (from ! (fld ! refl (stop !))) (look-in ! 17 (sub ! 1 refl (whole !)))) (no-more !)))) (from ! (stop !))
+        (init ! 5 refl (tt, (tt, (record { fits = listed .0 }, tt)))) $
         -- the list goes to `put`
         move ! (3 ∷ 4 ∷ 0 ∷ []) $ use3 W (raw (Put 𝓤 H A at-mem run .pre (to-put r v))) (asks-put r v (h .0)) $
         calls-at ! fm (Put 𝓤 H A at-mem run) known-put (to-put r v) (and-then ! (load ! (from ! (stop !)) (look ! 3 refl)) (and-then ! (load ! (from ! (stop !)) (look ! 13 refl)) (no-more !))) (λ u.
-        use1 W (later (some (λ (w : HostRanking). ((‵ (flft κ q) ⊛ ‵ ftrue) ⊛ ‵ (N.the-row .own w (u ∷ []))) ⊛ raw (ensured 𝓤 H A put.ended (put.clauses 𝓤 H A at-mem run) (κ, tt) (matches b, (r, tt)) tt w)))) (id⊢ 𝓤 _) $ await ! tt $ pick ! (λ w.
+        use1 W (later (some (λ (w : HostRanking). ((‵ (flft κ q) ⊛ ‵ ftrue) ⊛ ‵ (N.the-row .own w (u ∷ [])))
+        ⊛ raw (ensured 𝓤 H A put.ended (put.clauses 𝓤 H A at-mem run) (κ, tt) (matches b, (r, tt)) tt w)))) (id⊢ 𝓤 _) $ await ! tt $ pick ! (λ w.
         split ! $ move ! (1 ∷ []) $ use1 W (some (Filled r w)) (says-put r w) $ pick ! (λ ms. split ! $ move ! (1 ∷ []) $ heard ! (PutTold r w ms) (λ e.
         move ! (1 ∷ []) $ split ! $ move ! (1 ∷ []) $ peeks ! N.the-row (Is N.the-row) (shows 𝓤 H A N.the-row) w (u ∷ []) (λ is.
         -- [what the answer owns; the list's token; the last list; the others' tokens; the last work area; _15; …]
         land ! (from ! (stop !)) (init ! 35 refl (LL.lawful N.the-type N′.the-laws 𝓤 H A W .typed w _ is .0)) $
-        returns ! (look ! 35 refl) $ forget ! 5 refl $ forget ! 7 refl $ forget ! 9 refl $ forget ! 11 refl $ forget ! 13 refl $ forget ! 15 refl $ forget ! 17 refl $ forget ! 19 refl $ forget ! 21 refl $ forget ! 23 refl $ forget ! 25 refl $ forget ! 27 refl $ forget ! 29 refl $ forget ! 31 refl $ forget ! 33 refl $ forget ! 35 refl $
-        move ! (35 ∷ 36 ∷ []) $ free1 ! $ move ! (33 ∷ 34 ∷ []) $ free1 ! $ move ! (31 ∷ 32 ∷ []) $ free1 ! $ move ! (29 ∷ 30 ∷ []) $ free1 ! $ move ! (27 ∷ 28 ∷ []) $ free1 ! $ move ! (25 ∷ 26 ∷ []) $ free1 ! $ move ! (23 ∷ 24 ∷ []) $ free1 ! $ move ! (21 ∷ 22 ∷ []) $ free1 ! $ move ! (19 ∷ 20 ∷ []) $ free1 ! $ move ! (17 ∷ 18 ∷ []) $ free1 ! $ move ! (15 ∷ 16 ∷ []) $ free1 ! $ move ! (13 ∷ 14 ∷ []) $ free1 ! $ move ! (11 ∷ 12 ∷ []) $ free1 ! $ move ! (9 ∷ 10 ∷ []) $ free1 ! $ move ! (7 ∷ 8 ∷ []) $ free1 ! $ move ! (5 ∷ 6 ∷ []) $ free1 ! $ free0 ! $
+        returns ! (look ! 35 refl) $ forget ! 5 refl $ forget ! 7 refl $ forget ! 9 refl $ forget ! 11 refl $ forget ! 13 refl $ forget ! 15 refl $
+        forget ! 17 refl $ forget ! 19 refl $ forget ! 21 refl $ forget ! 23 refl $ forget ! 25 refl $ forget ! 27 refl $ forget ! 29 refl $ forget ! 31 refl $
+        forget ! 33 refl $ forget ! 35 refl $
+        move ! (35 ∷ 36 ∷ []) $ free1 ! $ move ! (33 ∷ 34 ∷ []) $ free1 ! $ move ! (31 ∷ 32 ∷ []) $ free1 ! $ move ! (29 ∷ 30 ∷ []) $ free1 ! $
+        move ! (27 ∷ 28 ∷ []) $ free1 ! $ move ! (25 ∷ 26 ∷ []) $ free1 ! $ move ! (23 ∷ 24 ∷ []) $ free1 ! $ move ! (21 ∷ 22 ∷ []) $ free1 ! $
+        move ! (19 ∷ 20 ∷ []) $ free1 ! $ move ! (17 ∷ 18 ∷ []) $ free1 ! $ move ! (15 ∷ 16 ∷ []) $ free1 ! $ move ! (13 ∷ 14 ∷ []) $ free1 ! $
+        move ! (11 ∷ 12 ∷ []) $ free1 ! $ move ! (9 ∷ 10 ∷ []) $ free1 ! $ move ! (7 ∷ 8 ∷ []) $ free1 ! $ move ! (5 ∷ 6 ∷ []) $ free1 ! $ free0 ! $
         keep ! (4 ∷ 2 ∷ 3 ∷ 1 ∷ 0 ∷ []) $ by ! (exits r w u ws ms h e)))))))))))))))))))))))))))
 
-module _ {M : Type 1} (𝓤 : URA M) (H : Heap 𝓤) (A : Atoms 𝓤) (W : Given 𝓤 H A) (mem : Memory → SProp 𝓤) (run : Routine → Fun 𝓤) (𝓣 : Tables 𝓤 H) (known-ratio : Triple 𝓤 (𝓣 .C #cd·coherence-ratio) (Ratio 𝓤 H A mem run)) (known-put : Triple 𝓤 (𝓣 .C #cd_list·put) (Put 𝓤 H A mem run)) where
+module _ {M : Type 1} (𝓤 : URA M) (H : Heap 𝓤) (A : Atoms 𝓤) (W : Given 𝓤 H A) (mem : Memory → SProp 𝓤) (run : Routine → Fun 𝓤) (𝓣 : Tables 𝓤 H)
+    (known-ratio : Triple 𝓤 (𝓣 .C #cd·coherence-ratio) (Ratio 𝓤 H A mem run)) (known-put : Triple 𝓤 (𝓣 .C #cd_list·put) (Put 𝓤 H A mem run)) where
   walks : Walks 𝓤 H A f.ended stayed (WpFn 𝓤 H (𝓣 .C) (𝓣 .Λ) code.function) (f.clauses 𝓤 H A mem run)
   walks = walked 𝓤 H A f.ended stayed (f.clauses 𝓤 H A mem run) (WpFn 𝓤 H (𝓣 .C) (𝓣 .Λ) code.function)
       (λ κs. (slice-vals, (float-vals binary32, rest-vals κs))) (λ κs. (shr-slice-tells (named 0) (κs .0) u32, (float-tells binary32, rest-tell κs)))

@@ -95,7 +95,9 @@ module _ {M : Type 1} (𝓤 : URA M) (H : Heap 𝓤) (A : Atoms 𝓤) (W : Given
   to-entry = ((κs, qs, bounds, (text, (DEFAULT-THRESHOLD, b)), (val text ∷ [], (vfloat binary32 DEFAULT-THRESHOLD ∷ [], vals))), tt)
 
   asks-entry : ent 𝓤 (⋆ 𝓤 H A (tokens ∷ ‵ Owned ∷ [])) (Entry 𝓤 H A at-mem run .pre to-entry)
-  asks-entry = qed W (tokens ∷ ‵ Owned ∷ []) ∵ move ! (1 ∷ []) $ fsplit ! $ owned ! f32 (Is f32) (float-makes 𝓤 H A W binary32) DEFAULT-THRESHOLD _ default-is $ move ! (0 ∷ 2 ∷ []) $ fjoin ! $ move ! (1 ∷ 0 ∷ []) $ fjoin ! $ move ! (1 ∷ 0 ∷ []) $ join ! $ frame ! $ done !
+  asks-entry =
+      qed W (tokens ∷ ‵ Owned ∷ []) ∵ move ! (1 ∷ []) $ fsplit ! $ owned ! f32 (Is f32) (float-makes 𝓤 H A W binary32) DEFAULT-THRESHOLD _ default-is $
+      move ! (0 ∷ 2 ∷ []) $ fjoin ! $ move ! (1 ∷ 0 ∷ []) $ fjoin ! $ move ! (1 ∷ 0 ∷ []) $ join ! $ frame ! $ done !
 
   abbrev Told : HostRanking → List ℕ → List CoherenceMatch → Type 0
   Told w ws ms =
@@ -117,10 +119,12 @@ module _ {M : Type 1} (𝓤 : URA M) (H : Heap 𝓤) (A : Atoms 𝓤) (W : Given
       → ent 𝓤 (⋆ 𝓤 H A (‵ (finally u32 (work b .name) ws) ∷ ‵ (finally T.the-row (matches b .name) ms) ∷ tokens ∷ ‵ (N.the-row .own w (u ∷ [])) ∷ [])) (Post u)
   exits w u ws ms h =
       qed W (‵ (finally u32 (work b .name) ws) ∷ ‵ (finally T.the-row (matches b .name) ms) ∷ tokens ∷ ‵ (N.the-row .own w (u ∷ [])) ∷ []) ∵
-      suffices ! _ (ends-at 𝓤 H A f.ended stayed (f.clauses 𝓤 H A at-mem run) W ((κs, qs, bounds, a, at), tt) u w (tt, (tt, (tt, (tt, (tt, (tt, (ws, (ms, tt)))))))) (tt, (tt, (tt, (tt, (tt, (tt, (h .3, (h .4, tt))))))))) $
+      suffices ! _ (ends-at 𝓤 H A f.ended stayed (f.clauses 𝓤 H A at-mem run) W ((κs, qs, bounds, a, at), tt) u w
+      (tt, (tt, (tt, (tt, (tt, (tt, (ws, (ms, tt)))))))) (tt, (tt, (tt, (tt, (tt, (tt, (h .3, (h .4, tt))))))))) $
       use2 W (‵ (hasOf κs rest rest-kept rest-stays b (tt, (tt, (tt, (tt, (tt, (ws, (ms, tt))))))) vals)) (rest-had 𝓤 H A W κs b vals ws ms) $ nothing ! $ fjoin ! $
       move ! (0 ∷ 2 ∷ []) $ join ! $ move ! (1 ∷ 0 ∷ []) $ join ! $ frame ! $
-      by ! (both 𝓤 _ _ (factI 𝓤 _ (emp 𝓤) (h .0 ∙ default-answer (text .now) (b .0) (b .1 .0 .now) (b .1 .1 .0 .now) (b .1 .1 .1 .0 .now) (b .1 .1 .1 .1 .0 .now) (length (work b .now)) (matches b .now)))
+      by ! (both 𝓤 _ _ (factI 𝓤 _ (emp 𝓤) (h .0 ∙ default-answer (text .now) (b .0) (b .1 .0 .now) (b .1 .1 .0 .now) (b .1 .1 .1 .0 .now)
+      (b .1 .1 .1 .1 .0 .now) (length (work b .now)) (matches b .now)))
       (both 𝓤 _ _ (factI 𝓤 _ (emp 𝓤) (h .1 ∙ default-work (text .now) (b .1 .0 .now) (b .1 .1 .0 .now) (b .1 .1 .1 .0 .now) (b .1 .1 .1 .1 .0 .now) (work b .now) (length (work b .now)) (room b)))
       (factI 𝓤 _ (emp 𝓤) (h .2 ∙ default-after (text .now) (b .0) (b .1 .0 .now) (b .1 .1 .0 .now) (b .1 .1 .1 .0 .now) (b .1 .1 .1 .1 .0 .now) (length (work b .now)) (matches b .now)))))
 
@@ -131,29 +135,49 @@ module _ {M : Type 1} (𝓤 : URA M) (H : Heap 𝓤) (A : Atoms 𝓤) (W : Given
     walk : ent 𝓤 (onEntry 𝓤 H A f.signature κs qs a at) (WpFn 𝓤 H C Λ code.function passed Post)
     walk =
         qed W (tokens ∷ ‵ Owned ∷ []) ∵ enter ! C Λ code.function passed _ $
-        alloc1 ! (λ l₀. alloc1 ! (λ l₁. alloc1 ! (λ l₂. alloc1 ! (λ l₃. alloc1 ! (λ l₄. alloc1 ! (λ l₅. alloc1 ! (λ l₆. alloc1 ! (λ l₇. alloc1 ! (λ l₈. alloc1 ! (λ l₉. alloc1 ! (λ l₁₀. alloc1 ! (λ l₁₁. alloc1 ! (λ l₁₂. alloc0 ! $ params1 ! $
+        alloc1 ! (λ l₀. alloc1 ! (λ l₁. alloc1 ! (λ l₂. alloc1 ! (λ l₃. alloc1 !
+        (λ l₄. alloc1 ! (λ l₅. alloc1 ! (λ l₆. alloc1 ! (λ l₇. alloc1 ! (λ l₈. alloc1 ! (λ l₉. alloc1 ! (λ l₁₀. alloc1 ! (λ l₁₁. alloc1 ! (λ l₁₂. alloc0 ! $
+        params1 ! $
         pass1 ! (init ! 22 refl (tt, (tt, (record { fits = text-room .0 }, tt)))) $ pass1 ! (init ! 20 refl (tt, record { fits = are .0 .1 })) $
-        pass1 ! (init ! 18 refl (tt, (tt, (record { fits = are .1 .0 .0 .1 .0 }, tt)))) $ pass1 ! (init ! 16 refl (tt, (tt, (record { fits = are .1 .1 .0 .0 .1 .0 }, tt)))) $ pass1 ! (init ! 14 refl (tt, (tt, (record { fits = are .1 .1 .1 .0 .0 .1 .0 }, tt)))) $
-        pass1 ! (init ! 12 refl (tt, (tt, (record { fits = are .1 .1 .1 .1 .0 .0 .1 .0 }, tt)))) $ pass1 ! (init ! 10 refl (tt, (tt, (record { fits = are .1 .1 .1 .1 .1 .0 .0 .1 .0 }, tt)))) $ pass1 ! (init ! 8 refl (tt, (tt, (record { fits = are .1 .1 .1 .1 .1 .1 .0 .0 .1 .0 }, tt)))) $ pass0 ! $
+        pass1 ! (init ! 18 refl (tt, (tt, (record { fits = are .1 .0 .0 .1 .0 }, tt)))) $
+        pass1 ! (init ! 16 refl (tt, (tt, (record { fits = are .1 .1 .0 .0 .1 .0 }, tt)))) $
+        pass1 ! (init ! 14 refl (tt, (tt, (record { fits = are .1 .1 .1 .0 .0 .1 .0 }, tt)))) $
+        pass1 ! (init ! 12 refl (tt, (tt, (record { fits = are .1 .1 .1 .1 .0 .0 .1 .0 }, tt)))) $
+        pass1 ! (init ! 10 refl (tt, (tt, (record { fits = are .1 .1 .1 .1 .1 .0 .0 .1 .0 }, tt)))) $
+        pass1 ! (init ! 8 refl (tt, (tt, (record { fits = are .1 .1 .1 .1 .1 .1 .0 .0 .1 .0 }, tt)))) $ pass0 ! $
         -- [_12; …; _11; …; and so on to room for _0; …; the tokens; what is owned]
         assigns ! (addr ! (from ! (fld ! refl (hop ! (look-in ! 10 (sub ! 0 refl (whole !))) (stop !))))) (from ! (stop !)) (init ! 6 refl (tt, tt)) $
-        assigns ! (agg ! (and-then ! (load ! (from ! (stop !)) (look ! 6 refl)) (and-then ! (load ! (from ! (fld ! refl (stop !))) (look-in ! 10 (sub ! 1 refl (whole !)))) (no-more !)))) (from ! (stop !)) (init ! 4 refl (tt, (tt, (record { fits = are .1 .1 .1 .1 .1 .0 .0 .1 .0 }, tt)))) $
+        assigns ! (agg ! (and-then ! (load ! (from ! (stop !)) (look ! 6 refl))
+        (and-then ! (load ! (from ! (fld ! refl (stop !))) (look-in ! 10 (sub ! 1 refl (whole !)))) (no-more !)))) (from ! (stop !))
+        (init ! 4 refl (tt, (tt, (record { fits = are .1 .1 .1 .1 .1 .0 .0 .1 .0 }, tt)))) $
         assigns ! (addr ! (from ! (fld ! refl (hop ! (look-in ! 8 (sub ! 0 refl (whole !))) (stop !))))) (from ! (stop !)) (init ! 2 refl (tt, tt)) $
-        assigns ! (agg ! (and-then ! (load ! (from ! (stop !)) (look ! 2 refl)) (and-then ! (load ! (from ! (fld ! refl (stop !))) (look-in ! 8 (sub ! 1 refl (whole !)))) (no-more !)))) (from ! (stop !)) (init ! 0 refl (tt, (tt, (record { fits = are .1 .1 .1 .1 .1 .1 .0 .0 .1 .0 }, tt)))) $
+        assigns ! (agg ! (and-then ! (load ! (from ! (stop !)) (look ! 2 refl))
+        (and-then ! (load ! (from ! (fld ! refl (stop !))) (look-in ! 8 (sub ! 1 refl (whole !)))) (no-more !)))) (from ! (stop !))
+        (init ! 0 refl (tt, (tt, (record { fits = are .1 .1 .1 .1 .1 .1 .0 .0 .1 .0 }, tt)))) $
         move ! (26 ∷ 27 ∷ []) $ use2 W (raw (Entry 𝓤 H A at-mem run .pre to-entry)) asks-entry $
         calls-at ! fm (Entry 𝓤 H A at-mem run) known-entry to-entry
-        (and-then ! (load ! (from ! (stop !)) (look ! 23 refl)) (and-then ! (float-lit ! tt) (and-then ! (load ! (from ! (stop !)) (look ! 21 refl)) (and-then ! (load ! (from ! (stop !)) (look ! 19 refl)) (and-then ! (load ! (from ! (stop !)) (look ! 17 refl))
-        (and-then ! (load ! (from ! (stop !)) (look ! 15 refl)) (and-then ! (load ! (from ! (stop !)) (look ! 13 refl)) (and-then ! (load ! (from ! (stop !)) (look ! 5 refl)) (and-then ! (load ! (from ! (stop !)) (look ! 1 refl)) (no-more !)))))))))) (λ u.
-        use1 W (later (some (λ (w : HostRanking). (tokens ⊛ ‵ (N.the-row .own w (u ∷ []))) ⊛ raw (ensured 𝓤 H A entry.ended (entry.clauses 𝓤 H A at-mem run) κs (text, (DEFAULT-THRESHOLD, b)) tt w)))) (id⊢ 𝓤 _) $ await ! tt $ pick ! (λ w.
+        (and-then ! (load ! (from ! (stop !)) (look ! 23 refl))
+        (and-then ! (float-lit ! tt) (and-then ! (load ! (from ! (stop !)) (look ! 21 refl))
+        (and-then ! (load ! (from ! (stop !)) (look ! 19 refl)) (and-then ! (load ! (from ! (stop !)) (look ! 17 refl))
+        (and-then ! (load ! (from ! (stop !)) (look ! 15 refl))
+        (and-then ! (load ! (from ! (stop !)) (look ! 13 refl))
+        (and-then ! (load ! (from ! (stop !)) (look ! 5 refl)) (and-then ! (load ! (from ! (stop !)) (look ! 1 refl)) (no-more !)))))))))) (λ u.
+        use1 W (later (some (λ (w : HostRanking). (tokens ⊛ ‵ (N.the-row .own w (u ∷ [])))
+        ⊛ raw (ensured 𝓤 H A entry.ended (entry.clauses 𝓤 H A at-mem run) κs (text, (DEFAULT-THRESHOLD, b)) tt w)))) (id⊢ 𝓤 _) $ await ! tt $ pick ! (λ w.
         split ! $ move ! (1 ∷ []) $ use1 W (some (Last w)) (says-entry w) $ pick ! (λ zs. split ! $ move ! (1 ∷ []) $ heard ! (Told w (zs .0) (zs .1)) (λ h. split ! $
         move ! (2 ∷ []) $ split ! $ move ! (1 ∷ []) $ peeks ! N.the-row (Is N.the-row) (shows 𝓤 H A N.the-row) w (u ∷ []) (λ is.
         -- [what the answer owns; the tokens; the last work area; the last list; _12; …]
         land ! (from ! (stop !)) (init ! 28 refl (LL.lawful N.the-type N′.the-laws 𝓤 H A W .typed w _ is .0)) $
-        returns ! (look ! 28 refl) $ forget ! 4 refl $ forget ! 6 refl $ forget ! 8 refl $ forget ! 10 refl $ forget ! 12 refl $ forget ! 14 refl $ forget ! 16 refl $ forget ! 18 refl $ forget ! 20 refl $ forget ! 22 refl $ forget ! 24 refl $ forget ! 26 refl $ forget ! 28 refl $
-        move ! (28 ∷ 29 ∷ []) $ free1 ! $ move ! (26 ∷ 27 ∷ []) $ free1 ! $ move ! (24 ∷ 25 ∷ []) $ free1 ! $ move ! (22 ∷ 23 ∷ []) $ free1 ! $ move ! (20 ∷ 21 ∷ []) $ free1 ! $ move ! (18 ∷ 19 ∷ []) $ free1 ! $ move ! (16 ∷ 17 ∷ []) $ free1 ! $ move ! (14 ∷ 15 ∷ []) $ free1 ! $ move ! (12 ∷ 13 ∷ []) $ free1 ! $ move ! (10 ∷ 11 ∷ []) $ free1 ! $ move ! (8 ∷ 9 ∷ []) $ free1 ! $ move ! (6 ∷ 7 ∷ []) $ free1 ! $ move ! (4 ∷ 5 ∷ []) $ free1 ! $ free0 ! $
+        returns ! (look ! 28 refl) $ forget ! 4 refl $ forget ! 6 refl $ forget ! 8 refl $ forget ! 10 refl $ forget ! 12 refl $ forget ! 14 refl $
+        forget ! 16 refl $ forget ! 18 refl $ forget ! 20 refl $ forget ! 22 refl $ forget ! 24 refl $ forget ! 26 refl $ forget ! 28 refl $
+        move ! (28 ∷ 29 ∷ []) $ free1 ! $ move ! (26 ∷ 27 ∷ []) $ free1 ! $ move ! (24 ∷ 25 ∷ []) $ free1 ! $ move ! (22 ∷ 23 ∷ []) $ free1 ! $
+        move ! (20 ∷ 21 ∷ []) $ free1 ! $ move ! (18 ∷ 19 ∷ []) $ free1 ! $ move ! (16 ∷ 17 ∷ []) $ free1 ! $ move ! (14 ∷ 15 ∷ []) $ free1 ! $
+        move ! (12 ∷ 13 ∷ []) $ free1 ! $ move ! (10 ∷ 11 ∷ []) $ free1 ! $ move ! (8 ∷ 9 ∷ []) $ free1 ! $ move ! (6 ∷ 7 ∷ []) $ free1 ! $
+        move ! (4 ∷ 5 ∷ []) $ free1 ! $ free0 ! $
         keep ! (2 ∷ 3 ∷ 1 ∷ 0 ∷ []) $ by ! (exits w u (zs .0) (zs .1) h)))))))))))))))))))
 
-module _ {M : Type 1} (𝓤 : URA M) (H : Heap 𝓤) (A : Atoms 𝓤) (W : Given 𝓤 H A) (mem : Memory → SProp 𝓤) (run : Routine → Fun 𝓤) (𝓣 : Tables 𝓤 H) (known-entry : Triple 𝓤 (𝓣 .C #host·drasumira-coherence) (Entry 𝓤 H A mem run)) where
+module _ {M : Type 1} (𝓤 : URA M) (H : Heap 𝓤) (A : Atoms 𝓤) (W : Given 𝓤 H A) (mem : Memory → SProp 𝓤) (run : Routine → Fun 𝓤) (𝓣 : Tables 𝓤 H)
+    (known-entry : Triple 𝓤 (𝓣 .C #host·drasumira-coherence) (Entry 𝓤 H A mem run)) where
   walks : Walks 𝓤 H A f.ended stayed (WpFn 𝓤 H (𝓣 .C) (𝓣 .Λ) code.function) (f.clauses 𝓤 H A mem run)
   walks = walked 𝓤 H A f.ended stayed (f.clauses 𝓤 H A mem run) (WpFn 𝓤 H (𝓣 .C) (𝓣 .Λ) code.function)
       (λ κs. (slice-vals, rest-vals κs)) (λ κs. (shr-slice-tells (named 0) (κs .0) u32, rest-tell κs))

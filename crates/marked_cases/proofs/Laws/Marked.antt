@@ -15,7 +15,7 @@ use Rattle.classes.specs.Lookup.{classOf, builtinClass, recordClass, lentClass}
 use Rattle.classes.specs.Pairs.{badPairs, bitOf, suspicious}
 use Rattle.classes.specs.Check.{badLength, badNumber, badRecord, badClasses}
 use Rattle.ratio.specs.Fraction.{fractionOf, atLeast}
-use Rattle.ratio.specs.Eight.{fractionsOf}
+use Rattle.ratio.specs.Eight.{fractionsOf, ratios, sum}
 use Rattle.md.specs.Text.{checkpoint, period}
 use Rattle.ratio.specs.Finite.{notFinite}
 use Rattle.md.specs.Scan.{acceptedScore, noClass, unless, stateAt, stops, fed, classAt, unclassed, sumOf, reaches, scored}
@@ -32,13 +32,14 @@ use Rattle.md_neighbours.specs.SuspiciousRange as ranges
 use Rattle.md_neighbours.specs.SuspiciousDuplicateAccent as doubled
 use Rattle.md_words.specs.SuperWeirdWord as words
 use Rattle.md_words.specs.ArchaicUpperLower as archaic
-use Rattle.ratio.specs.Rounded as rounding
+use Rattle.ratio.specs.Rounded.{rounded}
 
 -- every case is right; each definition that a row computes with is named, from the table down to the floats
 pub marked : all right cases ≡ true
 unfolding cases right tells withClasses onePair countsAfter ratioOf NO-PAIRS
     messRatio causes tooLong notFinite noClass unless acceptedScore stateAt stops checkpoint period fed classAt unclassed sumOf reaches scored first seek
-    given firstOf badLength badNumber badRecord badClasses badPairs goodTable firstBad goodAt goodSpan goodFields goodFlags noAscii noneOrScalar follows recordAt scalar flagRule casesRule kindsRule whiteRule scriptsRule
+    given firstOf badLength badNumber badRecord badClasses badPairs goodTable firstBad goodAt goodSpan goodFields goodFlags noAscii noneOrScalar follows
+    recordAt scalar flagRule casesRule kindsRule whiteRule scriptsRule
     classOf builtinClass recordClass lentClass holder holds entryAt flagWords rangeNumbers bases lowers bitOf suspicious has
     detectors.start detectors.feed detectors.counts fractionsOf fractionOf atLeast
     symbols.repeated symbols.adds symbols.countedSymbol symbols.printable symbols.feed symbols.counts
@@ -47,5 +48,5 @@ unfolding cases right tells withClasses onePair countsAfter ratioOf NO-PAIRS
     doubled.latinLetter doubled.both doubled.letter doubled.feed doubled.counts
     words.watched words.closes words.counted words.letter words.symbol words.accented words.capital words.camel words.long words.close words.inside words.feed words.counts
     archaic.separates archaic.counted archaic.separator archaic.changes archaic.letter archaic.feed archaic.counts
-    rounding.rounded rounding.ratios rounding.sum ofBits toBits round add le
+    rounded ratios sum ofBits toBits round add le
 marked = refl

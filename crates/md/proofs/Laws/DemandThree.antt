@@ -13,7 +13,7 @@ use Rattle.base.proofs.Laws.Tests.{by-bool, and-r}
 use Rattle.base.proofs.Laws.First.{first-before, first-found}
 use Rattle.base.specs.Limits.{LONGEST-TEXT}
 use Rattle.md_eight.proofs.Loops.Detectors.{fractions-proper}
-use Rattle.ratio.proofs.Laws.Eight.{EachProper}
+use Rattle.ratio.specs.Inner.Eight.{EachProper}
 use Rattle.ratio.specs.Finite.{Finite}
 use Rattle.ratio.specs.Demand.{Reached, Missed}
 use Rattle.ratio.proofs.Laws.Demand.{near, reached, missed}

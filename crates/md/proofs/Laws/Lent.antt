@@ -2,29 +2,23 @@
 -- (`free-checked`, `free-lent`), and the other way round (`checked-free`, `lent-free`).
 -- Assumes nothing.
 use Prim.Native.Nat.{ℕ}
-use mathlib.Core.Path.{_≡_, refl, ap, _∙_}
+use mathlib.Core.Path.{_≡_, ap, _∙_}
 use mathlib.Core.Bool.{true, false, not}
-use mathlib.Core.List.{List, [], _∷_}
+use mathlib.Core.List.{List}
 use lib.Ieee.{Float}
 use borrow.Author.Tests.{not-false}
 use Rattle.base.specs.declared.Cause.{Cause}
 use Rattle.base.specs.declared.Cause.the-variants.{Allowed, Refused}
 use Rattle.base.specs.declared.Refusal.{Refusal}
-use Rattle.base.specs.Causes.{refusedAt, firstOf}
+use Rattle.base.specs.Causes.{refusedAt}
 use Rattle.base.specs.Refusals.{NOT-FINITE}
-use Rattle.base.proofs.Laws.Causes.{first-refused, first-on, first-given, first-passed, first-free, given-free}
+use Rattle.base.proofs.Laws.Causes.{first-one, first-refused, first-on, first-given, first-passed, first-free, given-free}
 use Rattle.classes.specs.Check.{badClasses}
 use Rattle.classes.specs.Inner.Tables.{Tables}
 use Rattle.classes.specs.Pairs.{badPairs}
 use Rattle.classes.proofs.Laws.Tables.{free-tables, tables-free}
 use Rattle.ratio.specs.Finite.{isFinite, notFinite}
 use Rattle.md.specs.Inner.Lent.{ofTables, badTables, badLent}
-
--- one cause alone
-pub first-one : (c : Cause) → firstOf (c ∷ []) ≡ c
-unfolding firstOf
-first-one Allowed = refl
-first-one (Refused r) = refl
 
 module _ (classes pairs : List ℕ) where
   pub tables-bad : (r : Refusal) → badClasses classes ≡ Refused r → badTables classes pairs ≡ Refused r

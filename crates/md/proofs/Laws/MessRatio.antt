@@ -14,7 +14,7 @@ use Rattle.base.specs.declared.Refusal.{Refusal}
 use Rattle.base.specs.Causes.{given, firstOf}
 use Rattle.base.specs.Limits.{LONGEST-TEXT}
 use Rattle.base.specs.Refusals.{TOO-LONG}
-use Rattle.base.proofs.Laws.Causes.{first-given, first-passed, first-front, first-past}
+use Rattle.base.proofs.Laws.Causes.{first-one, first-given, first-passed, first-front, first-past}
 use Rattle.ratio.specs.Finite.{isFinite, notFinite}
 use Rattle.md.specs.declared.Limit.{Limit}
 use Rattle.md.specs.declared.Limit.the-variants.{Threshold, Never}
@@ -25,7 +25,6 @@ use Rattle.md.specs.Inner.Scan.{refused, scan}
 use Rattle.md.specs.Scan.{acceptedScore, noClass, unless}
 use Rattle.md.proofs.Laws.Scan.{unless-refused, unless-at}
 use Rattle.md.specs.MessRatio.{DEFAULT-THRESHOLD, tooLong, causes, causesDefault, messRatio, messRatioDefault, wholeScore}
-use Rattle.md.proofs.Laws.Lent.{first-one}
 
 -- 0.2 is finite
 pub default-finite : isFinite DEFAULT-THRESHOLD ≡ true

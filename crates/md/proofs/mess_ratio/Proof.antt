@@ -7,7 +7,7 @@ use Rattle.md.proofs.mess_ratio.Statement.{statement}
 use Rattle.md.proofs.mess_ratio.Tie as tie
 
 returns : tie.Need-returns
-returns c = c .refuse .ensures ∙ ratio-long _ _ _ _ (c .before .if1 .taken)
+returns c = c .unscored .ensures ∙ ratio-long _ _ _ _ (c .before .if1 .taken)
 
 scan-text-requires : tie.Need-scan-text-requires
 scan-text-requires c κs =
@@ -15,12 +15,16 @@ scan-text-requires c κs =
 
 returns-2 : tie.Need-returns-2
 returns-2 c =
-    ratio-lent _ _ _ _ (c .before .before .before .before .if1 .left) _ (sym (c .before .before .before .check-lent .ensures) ∙ c .before .why .given .1)
+    let at-check-lent = c .before .before .before in
+    let at-if1 = at-check-lent .before in
+    ratio-lent _ _ _ _ (at-if1 .if1 .left) _ (sym (at-check-lent .check-lent .ensures) ∙ c .before .why .given .1)
 
 returns-3 : tie.Need-returns-3
 returns-3 c =
+    let at-check-lent = c .before .before .before in
+    let at-if1 = at-check-lent .before in
     c .scan-text .ensures
-    ∙ ratio-scan _ _ _ _ (c .before .before .before .before .if1 .left) (sym (c .before .before .before .check-lent .ensures) ∙ c .before .enum-told .given .1)
+    ∙ ratio-scan _ _ _ _ (at-if1 .if1 .left) (sym (at-check-lent .check-lent .ensures) ∙ c .before .enum-told .given .1)
 
 pub mess-ratio-spec : {M : Type 1} → statement M
 mess-ratio-spec =

@@ -7,7 +7,7 @@ use Rattle.md.proofs.whole_score.Statement.{statement}
 use Rattle.md.proofs.whole_score.Tie as tie
 
 returns : tie.Need-returns
-returns c = c .refuse .ensures ∙ whole-long _ _ _ (c .before .if1 .taken)
+returns c = c .unscored .ensures ∙ whole-long _ _ _ (c .before .if1 .taken)
 
 scan-text-requires : tie.Need-scan-text-requires
 scan-text-requires c κs =
@@ -15,12 +15,16 @@ scan-text-requires c κs =
 
 returns-2 : tie.Need-returns-2
 returns-2 c =
-    whole-lent _ _ _ (c .before .before .before .before .if1 .left) _ (sym (c .before .before .before .check-tables .ensures) ∙ c .before .why .given .1)
+    let at-check-tables = c .before .before .before in
+    let at-if1 = at-check-tables .before in
+    whole-lent _ _ _ (at-if1 .if1 .left) _ (sym (at-check-tables .check-tables .ensures) ∙ c .before .why .given .1)
 
 returns-3 : tie.Need-returns-3
 returns-3 c =
+    let at-check-tables = c .before .before .before in
+    let at-if1 = at-check-tables .before in
     c .scan-text .ensures
-    ∙ whole-scan _ _ _ (c .before .before .before .before .if1 .left) (sym (c .before .before .before .check-tables .ensures) ∙ c .before .enum-told .given .1)
+    ∙ whole-scan _ _ _ (at-if1 .if1 .left) (sym (at-check-tables .check-tables .ensures) ∙ c .before .enum-told .given .1)
 
 pub whole-score-spec : {M : Type 1} → statement M
 whole-score-spec =

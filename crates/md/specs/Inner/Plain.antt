@@ -1,7 +1,7 @@
 -- Words of inner contracts, beside Plain: `PlainScore`, `PlainAnswer`. No public promise rests on them.
 -- Assumes nothing.
 use mathlib.Core.Path.{_≡_}
-use Rattle.ratio.specs.Inner.Rounded.{EachPlain}
+use Rattle.ratio.specs.Inner.Eight.{EachPlain}
 use Rattle.ratio.specs.Inner.Finite.{Plain}
 use Rattle.md.specs.declared.Score.{Score}
 use Rattle.md.specs.declared.Scored.{Scored}

@@ -10,8 +10,8 @@ use lib.Ieee.{Float, binary32, ofInt, le}
 use Rattle.base.specs.Inner.Limits.{LARGEST}
 use Rattle.classes.specs.declared.Class.{Class}
 use Rattle.ratio.specs.declared.Ratios.{Ratios}
-use Rattle.ratio.specs.Eight.{fractionsOf}
-use Rattle.ratio.proofs.Laws.Eight.{EachProper}
+use Rattle.ratio.specs.Eight.{fractionsOf, ratios as ratiosOf}
+use Rattle.ratio.specs.Inner.Eight.{EachProper}
 use Rattle.ratio.proofs.Laws.Rounded.{ratio-at-most}
 use Rattle.md_eight.specs.declared.Detectors.{Detectors}
 use Rattle.md_eight.specs.Detectors.{start, lastRange, feed, counts, fractions, ratios}
@@ -25,7 +25,6 @@ use Rattle.md_words.proofs.Laws.SuperWeirdWord as words
 use Rattle.md_counts.proofs.Laws.CjkInvalidStop as stops
 use Rattle.md_words.proofs.Laws.ArchaicUpperLower as archaic
 use Rattle.ratio.proofs.Laws.Fraction as ratio
-use Rattle.ratio.specs.Rounded as rounded
 
 -- what holds after k characters
 pub record Within (k : ℕ) (s : Detectors) : Type 0 where
@@ -115,7 +114,7 @@ module _ (k : ℕ) (s : Detectors) (w : Within k s) where
   fractions-proper h = ratio.fractions-proper (counts s) (within-countable h)
 
   pub ratios-at-most : k ≤ LARGEST → AtMost (ratios s)
-  unfolding counts fractionsOf rounded.ratios
+  unfolding counts fractionsOf ratiosOf
   ratios-at-most h =
       record {
         symbols = ratio-at-most 2 _ (symbols.within-small k (s .symbols) (w .symbols) h) (symbols.counts-bound k (s .symbols) (w .symbols));

@@ -10,7 +10,7 @@ use Rattle.md_neighbours.specs.Inner.SuspiciousDuplicateAccent as doubled
 use Rattle.md_words.specs.Inner.SuperWeirdWord as words
 use Rattle.md_counts.specs.Inner.CjkInvalidStop as stops
 use Rattle.md_words.specs.Inner.ArchaicUpperLower as archaic
-use Rattle.ratio.specs.Inner.Rounded as rounded
+use Rattle.ratio.specs.Inner.Eight.{EachSmall}
 
 -- room for one character more in each count
 pub record Room (s : Detectors) : Type 0 where
@@ -25,4 +25,4 @@ pub record Room (s : Detectors) : Type 0 where
 
 -- the counts are small enough for ratios
 abbrev pub Countable : Detectors → Type 0
-Countable s = rounded.EachSmall (counts s)
+Countable s = EachSmall (counts s)

@@ -19,8 +19,8 @@ use Rattle.base.specs.Refusals.{ACCEPTED, TOO-LONG, NO-ROOM}
 use Rattle.base.specs.declared.Refusal.{Refusal}
 use Rattle.base.proofs.Laws.Causes.{first-given, first-passed, first-front, first-past}
 use Rattle.base.proofs.Laws.Counted.{counted-allowed, counted-refused, counted-at, after-allowed, after-refused}
-use Rattle.ratio.specs.Eight.{DETECTORS}
-use Rattle.ratio.specs.Rounded.{bitsOf, bits}
+use Rattle.ratio.specs.Eight.{DETECTORS, bits}
+use Rattle.ratio.specs.Rounded.{bitsOf}
 use Rattle.md.specs.declared.Score.{Score}
 use Rattle.md.specs.declared.Scored.{Scored}
 use Rattle.md.specs.declared.Scored.the-variants.{Score as Told, Refused as Unscored}

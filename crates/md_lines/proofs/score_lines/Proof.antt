@@ -36,14 +36,19 @@ cast-t18 c =
     omega arith
 
 returns-3 : tie.Need-returns-3
-returns-3 c = faulty _ _ _ _ _ (c .before .before .before .before .if1 .left) _ (sym (c .before .before .before .check-lent .ensures) ∙ c .before .why .given .1)
+returns-3 c =
+    let at-check-lent = c .before .before .before in
+    let at-if1 = at-check-lent .before in
+    faulty _ _ _ _ _ (at-if1 .if1 .left) _ (sym (at-check-lent .check-lent .ensures) ∙ c .before .why .given .1)
 
 returns-4 : tie.Need-returns-4
 returns-4 c =
+    let at-if2 = c .before .before .before .before in
+    let at-count-lines = at-if2 .before in
     let told = c .before .before .before .before .before .before in
     rw (c .before .before .put-rows .ensures)
     (scored _ _ _ _ _ (told .before .before .before .if1 .left) (sym (told .before .before .check-lent .ensures) ∙ told .enum-told .given .1) _
-    (c .before .before .before .before .before .count-lines .ensures) (c .before .before .before .before .if2 .left))
+    (at-count-lines .count-lines .ensures) (at-if2 .if2 .left))
 
 pub score-lines-spec : {M : Type 1} → statement M
 score-lines-spec =

@@ -1,17 +1,15 @@
 -- Two pieces put one behind the other are one piece (`goes-on`), and a piece at the front fills the output (`goes-whole`).
 -- Assumes nothing.
-use Prim.Native.Nat.{ℕ, _+_, _≤_}
+use Prim.Native.Nat.{ℕ, _+_}
 use mathlib.Core.Path.{_≡_, ap, _∙_}
 use mathlib.Core.List.{List, _++_, append-assoc}
-use native.Mathlib.Nat.{zero-add, add-assoc}
+use native.Mathlib.Nat.{zero-add}
 use native.Mathlib.Omega.{arith}
 use lib.Ieee.{toBits, binary32}
-use lib.ListN.{length, take, drop, length-append}
-use lib.Seq.{take-at, length-take-le}
+use lib.ListN.{length, length-append}
 use Rattle.base.specs.declared.Refusal.{Refusal}
 use Rattle.base.specs.Numbers.{bump}
-use Rattle.base.specs.Put.{put}
-use Rattle.base.proofs.Laws.Put.{put-length, put-beyond}
+use Rattle.base.proofs.Laws.Put.{put-length, put-on}
 use Rattle.md.specs.declared.Score.{Score}
 use Rattle.md.specs.declared.Scored.{Scored}
 use Rattle.md.specs.declared.Scored.the-variants.{Refused, Score as Told}
@@ -21,22 +19,6 @@ use Rattle.program.specs.Words.{codes}
 use Rattle.program.specs.Numerals.{hex, decimal}
 use Rattle.program.proofs.Laws.Numerals.{decimal-short}
 use Rattle.program.specs.Inner.Pieces.{Goes, Numbered}
-
--- a list put right behind one that was put
-put-on : (b : List ℕ) (at : ℕ) (p q : List ℕ) → at + length p ≤ length b → put (put b at p) (at + length p) q ≡ put b at (p ++ q)
-unfolding put
-put-on b at p q room =
-    let e : length (p ++ q) ≡ length p + length q = length-append p q in
-    rw (taken, beyond, e) (simp (append-assoc, add-assoc))
-  where
-    front : length (take at b ++ p) ≡ at + length p
-    front = simp (length-append, length-take-le at b (omega arith))
-
-    taken : take (at + length p) (take at b ++ (p ++ drop (at + length p) b)) ≡ take at b ++ p
-    taken = rw (← append-assoc (take at b) p (drop (at + length p) b)) (take-at (take at b ++ p) (drop (at + length p) b) (at + length p) front)
-
-    beyond : drop (at + length p + length q) (take at b ++ (p ++ drop (at + length p) b)) ≡ drop (at + length p + length q) b
-    beyond = put-beyond b at p room (at + length p + length q) (omega arith)
 
 module _ {b m x : List ℕ} {at k r : ℕ} {p q : List ℕ} where
   pub goes-on : Goes b m at p k → Goes m x k q r → Goes b x at (p ++ q) r

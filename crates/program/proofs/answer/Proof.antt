@@ -6,7 +6,7 @@ use Rattle.program.proofs.answer.Statement.{statement}
 use Rattle.program.proofs.answer.Tie as tie
 
 returns : tie.Need-returns
-returns c = c .refuse .ensures ∙ over _ (c .before .if1 .taken)
+returns c = c .unscored .ensures ∙ over _ (c .before .if1 .taken)
 
 returns-2 : tie.Need-returns-2
 returns-2 c = c .mess-ratio-utf8 .ensures ∙ rw (c .before .before .before .no-pairs .ensures) (within _ (c .before .before .before .before .if1 .left))

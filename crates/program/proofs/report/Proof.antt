@@ -10,10 +10,16 @@ put-score-requires : tie.Need-put-score-requires
 put-score-requires c κs = (answer-plain _ _ (sym (c .before .before .score .given .1) ∙ c .before .before .before .before .answer .ensures) .sum .no-nan, search needs)
 
 returns : tie.Need-returns
-returns c = goes-whole _ _ _ _ _ (sym (c .before .before .before .why .given .1) ∙ c .before .before .before .before .before .answer .ensures) (c .put-refused .ensures)
+returns c =
+    let at-why = c .before .before .before in
+    let at-answer = at-why .before .before in
+    goes-whole _ _ _ _ _ (sym (at-why .why .given .1) ∙ at-answer .answer .ensures) (c .put-refused .ensures)
 
 returns-2 : tie.Need-returns-2
-returns-2 c = goes-whole _ _ _ _ _ (sym (c .before .before .before .score .given .1) ∙ c .before .before .before .before .before .answer .ensures) (c .put-score .ensures)
+returns-2 c =
+    let at-score = c .before .before .before in
+    let at-answer = at-score .before .before in
+    goes-whole _ _ _ _ _ (sym (at-score .score .given .1) ∙ at-answer .answer .ensures) (c .put-score .ensures)
 
 pub report-spec : {M : Type 1} → statement M
 report-spec =

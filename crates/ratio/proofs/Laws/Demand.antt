@@ -14,24 +14,23 @@ use lib.Signed.{_≤ℤ_, _<ℤ_, leZ}
 use lib.Pow.{pow-pos}
 use lib.Ieee.{Float, nan, inf, fin, binary32, fits, le, lt}
 use lib.Ieee.Exact.{HasValue}
-use Rattle.ratio.specs.Eight.{Fractions}
-use Rattle.ratio.specs.Rounded.{ratios, sum}
-use Rattle.ratio.proofs.Laws.Eight.{EachProper}
+use Rattle.ratio.specs.Eight.{Fractions, ratios, sum}
+use Rattle.ratio.specs.Inner.Eight.{EachProper}
 use Rattle.ratio.specs.Demand.{ONE, signed, denominators, exact, Near, Reached, Missed}
 use Rattle.ratio.specs.Finite.{isFinite, Finite}
 use Rattle.ratio.specs.Inner.Finite.{Plain}
 use Rattle.ratio.proofs.Laws.Finite.{plain-of}
 use Rattle.ratio.proofs.Laws.Parts.{parts-is, Whole, parts-whole}
 use Rattle.ratio.proofs.Laws.Once.{U}
-use Rattle.ratio.proofs.Laws.Apart.{Nine}
+use Rattle.ratio.proofs.Laws.Apart.{OFF, Off}
 use Rattle.ratio.proofs.Laws.Comparing.{le-is, lt-not-le}
-use Rattle.ratio.proofs.Laws.Summing.{Sum, sum-nine}
+use Rattle.ratio.proofs.Laws.Summing.{Sum, sum-off}
 
 holds : (b : Bool) → b ≡ true → T b
 holds b e = subst (λ (z : Bool). T z) (sym e) tt
 
 pub sum-plain : (f : Fractions) → EachProper f → Plain (sum (ratios f))
-sum-plain f c = let h = sum-nine f c in plain-of (sum (ratios f)) (h .size) (h .value)
+sum-plain f c = let h = sum-off f c in plain-of (sum (ratios f)) (h .size) (h .value)
 
 -- ---- the distance
 gap : (a b c : ℕ) → U * a ≤ U * b + c → U * b ≤ U * a + c → U * natAbs (pos a -ℤ pos b) ≤ c
@@ -44,15 +43,15 @@ gap a (suc b) c h k = go (ltb a (suc b)) (ltb→lt a (suc b)) (nltb→le a (suc 
 
 pub near : (f : Fractions) → EachProper f → Near (sum (ratios f)) f
 near f c =
-    let h = sum-nine f c in
-    subst (λ (z : ℤ). U * natAbs (z *ℤ pos (denominators f) -ℤ pos (exact f)) ≤ 9 * exact f) (sym (parts-is (sum (ratios f)) false (h .size) (h .value)))
-    (gap (h .size * denominators f) (exact f) (9 * exact f) (h .nine .0) (h .nine .1))
+    let h = sum-off f c in
+    subst (λ (z : ℤ). U * natAbs (z *ℤ pos (denominators f) -ℤ pos (exact f)) ≤ OFF * exact f) (sym (parts-is (sum (ratios f)) false (h .size) (h .value)))
+    (gap (h .size * denominators f) (exact f) (OFF * exact f) (h .off .0) (h .off .1))
 
 -- ---- the threshold: the score is w parts, and the threshold u, over the denominators D
-reach : (w u D e : ℕ) → Nine (w * D) e → u ≤ w → U * (u * D) ≤ (U + 9) * e
+reach : (w u D e : ℕ) → Off (w * D) e → u ≤ w → U * (u * D) ≤ (U + OFF) * e
 reach w u D e n h = omega (arith, mul-le-mul-right D h)
 
-miss : (w u D e : ℕ) → Nine (w * D) e → 0 < D → w < u → (U - 9) * e < U * (u * D)
+miss : (w u D e : ℕ) → Off (w * D) e → 0 < D → w < u → (U - OFF) * e < U * (u * D)
 miss w u D e n P h = omega (arith, mul-lt-mul-of-pos-right h P)
 
 -- what has a minus sign, multiplied out, is at most what has none
@@ -83,22 +82,22 @@ module _ (s t : Float) (f : Fractions) (h : Sum s f) (u : ℕ) where
   order : HasValue t false u ONE → le t s ≡ leb (u * ONE) (h .size * ONE)
   order v = le-is u ONE (h .size) ONE (pow-pos 149) (pow-pos 149) t s v (h .value)
 
-  reached-at : (g : Bool) → HasValue t g u ONE → le t s ≡ true → (pos U *ℤ (signed g u *ℤ pos (denominators f))) ≤ℤ pos ((U + 9) * exact f)
+  reached-at : (g : Bool) → HasValue t g u ONE → le t s ≡ true → (pos U *ℤ (signed g u *ℤ pos (denominators f))) ≤ℤ pos ((U + OFF) * exact f)
   reached-at false v e =
       record {
         le =
-            le→leb (U * (u * denominators f)) ((U + 9) * exact f)
-            (reach (h .size) u (denominators f) (exact f) (h .nine)
+            le→leb (U * (u * denominators f)) ((U + OFF) * exact f)
+            (reach (h .size) u (denominators f) (exact f) (h .off)
             (le-of-mul-le-mul-right (leb-true (u * ONE) (h .size * ONE) (sym (order v) ∙ e)) (pow-pos 149)));
       }
-  reached-at true v e = minus-times u (denominators f) ((U + 9) * exact f)
+  reached-at true v e = minus-times u (denominators f) ((U + OFF) * exact f)
 
-  missed-at : (g : Bool) → HasValue t g u ONE → le t s ≡ false → lt s t ≡ true → pos ((U - 9) * exact f) <ℤ (pos U *ℤ (signed g u *ℤ pos (denominators f)))
+  missed-at : (g : Bool) → HasValue t g u ONE → le t s ≡ false → lt s t ≡ true → pos ((U - OFF) * exact f) <ℤ (pos U *ℤ (signed g u *ℤ pos (denominators f)))
   missed-at false v e l =
       record {
         lt =
-            lt→ltb ((U - 9) * exact f) (U * (u * denominators f))
-            (miss (h .size) u (denominators f) (exact f) (h .nine) (h .positive)
+            lt→ltb ((U - OFF) * exact f) (U * (u * denominators f))
+            (miss (h .size) u (denominators f) (exact f) (h .off) (h .positive)
             (lt-of-mul-lt-mul-right ONE (leb-false (u * ONE) (h .size * ONE) (sym (order v) ∙ e))));
       }
   missed-at true v e l = absurd (true≢false (sym l ∙ not-below s t (h .size) u ONE (h .value) v))
@@ -112,10 +111,10 @@ module _ (f : Fractions) (c : EachProper f) (t : Float) (F : Finite t) where
 
   pub reached : le t (sum (ratios f)) ≡ true → Reached t f
   reached e =
-      subst (λ (z : ℤ). (pos U *ℤ (z *ℤ pos (denominators f))) ≤ℤ pos ((U + 9) * exact f)) (sym (parts-is t (whole .sign) (whole .size) (whole .value)))
-      (reached-at (sum (ratios f)) t f (sum-nine f c) (whole .size) (whole .sign) (whole .value) e)
+      subst (λ (z : ℤ). (pos U *ℤ (z *ℤ pos (denominators f))) ≤ℤ pos ((U + OFF) * exact f)) (sym (parts-is t (whole .sign) (whole .size) (whole .value)))
+      (reached-at (sum (ratios f)) t f (sum-off f c) (whole .size) (whole .sign) (whole .value) e)
 
   pub missed : le t (sum (ratios f)) ≡ false → Missed t f
   missed e =
-      subst (λ (z : ℤ). pos ((U - 9) * exact f) <ℤ (pos U *ℤ (z *ℤ pos (denominators f)))) (sym (parts-is t (whole .sign) (whole .size) (whole .value)))
-      (missed-at (sum (ratios f)) t f (sum-nine f c) (whole .size) (whole .sign) (whole .value) e (below ∙ ap not e))
+      subst (λ (z : ℤ). pos ((U - OFF) * exact f) <ℤ (pos U *ℤ (z *ℤ pos (denominators f)))) (sym (parts-is t (whole .sign) (whole .size) (whole .value)))
+      (missed-at (sum (ratios f)) t f (sum-off f c) (whole .size) (whole .sign) (whole .value) e (below ∙ ap not e))

@@ -4,12 +4,14 @@
 use Prim.Native.Nat.{ℕ, _*_, _^_}
 use mathlib.Core.Path.{_≡_, refl}
 use mathlib.Core.Bool.{true}
+use mathlib.Core.List.{[], _∷_}
 use lib.Dec.{ltb}
 use lib.IntN.{pos, natAbs, _-ℤ_}
 use lib.Ieee.{round, add}
 use Rattle.ratio.specs.declared.Fraction.{Fraction}
-use Rattle.ratio.specs.Eight.{Fractions}
-use Rattle.ratio.specs.Rounded.{rounded, ratios, sum}
+use Rattle.ratio.specs.Eight.{Fractions, ratios, sum}
+use Rattle.ratio.specs.Inner.Eight.{fractionsIn}
+use Rattle.ratio.specs.Rounded.{rounded}
 use Rattle.ratio.specs.Demand.{parts, denominators, numerators, exact, multiplied}
 
 infix 70 _over_
@@ -17,16 +19,9 @@ abbrev _over_ : ℕ → ℕ → Fraction
 p over q = record { num = p; den = q }
 
 abbrev far : Fractions
-far = record {
-  symbols = 819 over 583;
-  accents = 409 over 561;
-  unprintable = 812 over 316;
-  ranges = 1169 over 900;
-  doubled = 1183 over 572;
-  words = 9 over 316;
-  stops = 91 over 908;
-  archaic = 248 over 727;
-}
+far =
+    fractionsIn
+    (819 over 583 ∷ 409 over 561 ∷ 812 over 316 ∷ 1169 over 900 ∷ 1183 over 572 ∷ 9 over 316 ∷ 91 over 908 ∷ 248 over 727 ∷ [])
 
 pub four-is-too-few : ltb (4 * exact far) (2 ^ 24 * natAbs (multiplied (sum (ratios far)) far -ℤ pos (exact far))) ≡ true
 unfolding round add rounded ratios sum parts denominators numerators

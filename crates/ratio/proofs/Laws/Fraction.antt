@@ -16,9 +16,7 @@ use Rattle.ratio.specs.declared.EightCounts.{EightCounts}
 use Rattle.ratio.specs.Fraction.{shareOf, nothing, fractionOf}
 use Rattle.ratio.specs.Inner.Fraction.{Small, Proper}
 use Rattle.ratio.specs.Eight.{fractionsOf}
-use Rattle.ratio.specs.Inner.Eight.{listCounts}
-use Rattle.ratio.proofs.Laws.Eight.{EachProper}
-use Rattle.ratio.specs.Inner.Rounded.{EachSmall}
+use Rattle.ratio.specs.Inner.Eight.{listCounts, EachProper, EachSmall}
 
 positive : (n : ℕ) → not (eqb n 0) ≡ true → 0 < n
 positive n e = elim (eq-zero-or-pos n) [ inl z ↦ absurd (eqb-false n 0 (not-true (eqb n 0) e) z) | inr p ↦ p ]

@@ -21,10 +21,9 @@ use Rattle.ratio.specs.declared.Counts.{Counts}
 use Rattle.ratio.specs.Inner.Fraction.{MOST-NUM, MOST-DEN, Small, Proper}
 use Rattle.ratio.specs.Fraction.{shareOf, nothing, fractionOf}
 use Rattle.ratio.proofs.Laws.Fraction.{fraction-proper, fraction-bound}
-use Rattle.ratio.specs.Rounded.{rounded, ratios}
-use Rattle.ratio.specs.Inner.Rounded.{EachPlain}
-use Rattle.ratio.specs.Eight.{Fractions}
-use Rattle.ratio.proofs.Laws.Eight.{list, EachProper}
+use Rattle.ratio.specs.Rounded.{rounded}
+use Rattle.ratio.specs.Eight.{ratios, Fractions}
+use Rattle.ratio.specs.Inner.Eight.{EachPlain, listFractions, EachProper}
 use Rattle.ratio.specs.Demand.{ONE}
 use Rattle.ratio.specs.Inner.Finite.{Plain}
 use Rattle.ratio.proofs.Laws.Finite.{plain-of}
@@ -67,7 +66,7 @@ rounded-plain f h = plain-of (rounded f) (partsOf f) (rounded-value f h)
 
 pub ratios-plain : (f : Fractions) → EachProper f → EachPlain (ratios f)
 unfolding ratios
-ratios-plain f h = all-map Proper Plain rounded rounded-plain (list f) h
+ratios-plain f h = all-map Proper Plain rounded rounded-plain (listFractions f) h
 
 -- an f32 holds both counts
 num-exact : (n : ℕ) → n ≤ MOST-NUM → n ≤ 2 ^ 24

@@ -1,5 +1,6 @@
 -- Eight fractions, each rounded once, and added in order, each sum rounded once: after k fractions the float is their exact sum, but for
--- k roundings (`At`, by `at-first`, `at-next` and, over a list, `at-list`). So the sum of eight is off by 9 parts in 2 ^ 24 of the exact sum at most (`sum-nine`).
+-- k roundings (`At`, by `at-first`, `at-next` and, over a list, `at-list`). So the sum of the eight is off by OFF = 9 parts in 2 ^ 24 of the
+-- exact sum at most (`sum-off`). Their number is DETECTORS throughout.
 -- Assumes nothing.
 use Prim.Native.Nat.{ℕ, suc, _+_, _*_, _^_, _≤_, _<_}
 use mathlib.Core.Path.{_≡_, refl, sym, _∙_, subst}
@@ -15,13 +16,13 @@ use lib.Ieee.Exact.{HasValue}
 use lib.Ieee.Scale.{grid, round-val}
 use Rattle.base.specs.Inner.All.{All}
 use Rattle.ratio.specs.declared.Fraction.{Fraction}
-use Rattle.ratio.specs.Eight.{Fractions}
-use Rattle.ratio.proofs.Laws.Eight.{list, EachProper}
+use Rattle.ratio.specs.Eight.{DETECTORS, Fractions, ratios, sum}
+use Rattle.ratio.specs.Inner.Eight.{listFractions, EachProper}
 use Rattle.ratio.specs.Inner.Fraction.{MOST-NUM, Proper}
-use Rattle.ratio.specs.Rounded.{rounded, ratios, _⊕_, sum}
+use Rattle.ratio.specs.Rounded.{rounded, _⊕_}
 use Rattle.ratio.specs.Demand.{ONE, denominators, numerators, exact}
 use Rattle.ratio.proofs.Laws.Once.{Once, once-scale}
-use Rattle.ratio.proofs.Laws.Apart.{Apart, apart-once, apart-more, apart-scale, apart-add, apart-round, apart-twice, Nine, apart-nine}
+use Rattle.ratio.proofs.Laws.Apart.{Apart, apart-once, apart-more, apart-scale, apart-add, apart-round, apart-twice, Off, apart-off}
 use Rattle.ratio.proofs.Laws.Grid.{grid-whole}
 use Rattle.ratio.proofs.Laws.Operations.{add-at}
 use Rattle.ratio.proofs.Laws.Rounded.{partsOf, rounded-once, rounded-value}
@@ -30,7 +31,7 @@ use Rattle.ratio.proofs.Laws.Rounded.{partsOf, rounded-once, rounded-va
 abbrev Rounds : ℕ → ℕ → ℕ → ℕ → ℕ → Type 0
 Rounds l k w N D = (0 < D) × (N ≤ k * (MOST-NUM * D)) × Apart k (w * D) (N * l)
 
-rounds-few : (l k w N D : ℕ) → k ≤ 8 → Rounds l k w N D → w ≤ 16 * MOST-NUM * l
+rounds-few : (l k w N D : ℕ) → k ≤ DETECTORS → Rounds l k w N D → w ≤ 2 * DETECTORS * MOST-NUM * l
 rounds-few l k w N D K r =
     let t = apart-twice k (w * D) (N * l) K (r .2) in
     le-of-mul-le-mul-right {k = D} (omega (arith, mul-le-mul-right l (r .1), mul-le-mul-right (D * l) K)) (r .0)
@@ -39,7 +40,7 @@ rounds-few l k w N D K r =
 rounds-first : (l r p q : ℕ) → p ≤ MOST-NUM → 0 < q → Once (r * q) (p * l) → Rounds l 1 r p q
 rounds-first l r p q P Q o = (Q, omega (arith, mul-le-mul-left MOST-NUM Q), apart-once (r * q) (p * l) o)
 
-module _ (l k w N D r p q w' : ℕ) (I : 1 ≤ k) (K : k ≤ 7) (P : p ≤ MOST-NUM) (Q : 0 < q) (o : Once (r * q) (p * l)) (s : Once w' (w + r)) (h : Rounds l k w N D) where
+module _ (l k w N D r p q w' : ℕ) (I : 1 ≤ k) (K : k < DETECTORS) (P : p ≤ MOST-NUM) (Q : 0 < q) (o : Once (r * q) (p * l)) (s : Once w' (w + r)) (h : Rounds l k w N D) where
   more : N * q + p * D ≤ suc k * (MOST-NUM * (D * q))
   more = omega (arith, mul-le-mul-right q (h .1), mul-le-mul-right D P, mul-le-mul-left D Q)
 
@@ -76,10 +77,10 @@ at-first : {f : Fraction} → Proper f → At 1 (rounded f) f
 at-first {f} c =
     record { parts = partsOf f; value = rounded-value f c; rounds = rounds-first ONE (partsOf f) (f .num) (f .den) (c .small .num) (c .positive) (rounded-once f c) }
 
-under : (w : ℕ) → w ≤ 16 * MOST-NUM * ONE → w < 2 ^ (149 + 128)
+under : (w : ℕ) → w ≤ 2 * DETECTORS * MOST-NUM * ONE → w < 2 ^ (149 + 128)
 under w h = lt-of-le-of-lt h (lit< tt)
 
-at-next : {k : ℕ} {s : Float} {e f : Fraction} → 1 ≤ k → k ≤ 7 → At k s e → Proper f → At (suc k) (s ⊕ rounded f) (e plus f)
+at-next : {k : ℕ} {s : Float} {e f : Fraction} → 1 ≤ k → k < DETECTORS → At k s e → Proper f → At (suc k) (s ⊕ rounded f) (e plus f)
 at-next {k} {s} {e} {f} I K a c =
     let w = a .parts in
     let r = partsOf f in
@@ -92,7 +93,7 @@ at-next {k} {s} {e} {f} I K a c =
       rounds = h;
     }
   where
-    up-one : (k : ℕ) → k ≤ 7 → suc k ≤ 8
+    up-one : (k : ℕ) → k < DETECTORS → suc k ≤ DETECTORS
     up-one k h = omega arith
 
 -- ---- a list of fractions behind the first
@@ -104,7 +105,7 @@ abbrev summed : Fraction → List Fraction → Fraction
 summed e [] = e
 summed e (f ∷ l) = summed (e plus f) l
 
-at-list : (k : ℕ) (s : Float) (e : Fraction) (l : List Fraction) → 1 ≤ k → k + length l ≤ 8 → At k s e → All Proper l
+at-list : (k : ℕ) (s : Float) (e : Fraction) (l : List Fraction) → 1 ≤ k → k + length l ≤ DETECTORS → At k s e → All Proper l
     → At (k + length l) (added s l) (summed e l)
 at-list k s e [] I K a h = subst (λ (n : ℕ). At n s e) (sym (add-zero k)) a
 at-list k s e (f ∷ l) I K a h =
@@ -113,12 +114,12 @@ at-list k s e (f ∷ l) I K a h =
 
 -- ---- the eight
 abbrev rest : Fractions → List Fraction
-rest f = drop 1 (list f)
+rest f = drop 1 (listFractions f)
 
 abbrev total : Fractions → Fraction
 total f = summed (f .symbols) (rest f)
 
-at-eight : (f : Fractions) → EachProper f → At 8 (sum (ratios f)) (total f)
+at-eight : (f : Fractions) → EachProper f → At DETECTORS (sum (ratios f)) (total f)
 unfolding sum ratios
 at-eight f c = at-list 1 (rounded (f .symbols)) (f .symbols) (rest f) (lit≤ tt) (lit≤ tt) (at-first (c .0)) (c .1)
 
@@ -135,15 +136,15 @@ pub record Sum (s : Float) (f : Fractions) : Type 0 where
   pub size : ℕ
   pub value : HasValue s false size ONE
   pub positive : 0 < denominators f
-  pub nine : Nine (size * denominators f) (exact f)
+  pub off : Off (size * denominators f) (exact f)
 
-pub sum-nine : (f : Fractions) → EachProper f → Sum (sum (ratios f)) f
-sum-nine f c =
+pub sum-off : (f : Fractions) → EachProper f → Sum (sum (ratios f)) f
+sum-off f c =
     let a = at-eight f c in
     record {
       size = a .parts;
       value = a .value;
       positive = subst (λ (d : ℕ). 0 < d) (total-den f) (a .rounds .0);
-      nine = subst (λ (d : ℕ). Nine (a .parts * d) (exact f)) (total-den f)
-          (subst (λ (n : ℕ). Nine (a .parts * total f .den) (n * ONE)) (total-num f) (apart-nine (a .parts * total f .den) (total f .num * ONE) (a .rounds .2)));
+      off = subst (λ (d : ℕ). Off (a .parts * d) (exact f)) (total-den f)
+          (subst (λ (n : ℕ). Off (a .parts * total f .den) (n * ONE)) (total-num f) (apart-off (a .parts * total f .den) (total f .num * ONE) (a .rounds .2)));
     }

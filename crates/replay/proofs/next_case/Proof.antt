@@ -9,7 +9,7 @@ use Rattle.replay.proofs.next_case.Tie as tie
 returns : tie.Need-returns
 returns c =
     let called = c .before .before .before .before in
-    let count = c .before .before .counted .ensures in
+    let count = c .before .before .tallied .ensures in
     record {
       sound = record { few = count .sound .few; some = count .sound .some };
       fits = record { within = omega arith; same = refl };
@@ -21,7 +21,7 @@ returns-2 c =
     let read = c .before .before in
     let counting = read .before .before .before .before in
     let called = counting .before .before in
-    let count = counting .counted .ensures in
+    let count = counting .tallied .ensures in
     record {
       sound = record { few = count .sound .few; some = count .sound .some };
       fits = read .read-case .ensures;

@@ -12,7 +12,10 @@ abbrev μ-loop : tie.MeasureT-loop
 μ-loop table buf from builtins same₀ at₀ same at = MOST-WORDS - at
 
 look-up-in-requires : tie.Need-look-up-in-requires Inv-loop μ-loop
-look-up-in-requires c κs = (c .before .before .before .before .before .before .before .before .pre, c .before .before .before .before .before .table .ensures)
+look-up-in-requires c κs =
+    let at-table = c .before .before .before .before .before in
+    let asked = at-table .before .before .before in
+    (asked .pre, at-table .table .ensures)
 
 pub same-classes-spec : {M : Type 1} → statement M
 same-classes-spec =

@@ -6,7 +6,10 @@ use Rattle.replay_coherence.proofs.replay_block.Statement.{statement}
 use Rattle.replay_coherence.proofs.replay_block.Tie as tie
 
 slice-aggregate-replay-questions : tie.Need-slice-aggregate-replay-questions
-slice-aggregate-replay-questions c = simp length-take (omega (arith, c .before .before .before .before .before .before .before .before .before .least3 .ensures, c .before .before .before .flip-bits .ensures))
+slice-aggregate-replay-questions c =
+    let at-flip-bits = c .before .before .before in
+    let at-least3 = at-flip-bits .before .before .before .before .before .before in
+    simp length-take (omega (arith, at-least3 .least3 .ensures, at-flip-bits .flip-bits .ensures))
 
 pub replay-block-spec : {M : Type 1} → statement M
 replay-block-spec =

@@ -9,10 +9,14 @@ slice-aggregate-coherence-ratio : tie.Need-slice-aggregate-coherence-ratio
 slice-aggregate-coherence-ratio c = simp length-take (omega (arith, c .before .before .before .before .least .ensures))
 
 same-matches-requires : tie.Need-same-matches-requires
-same-matches-requires c κs = c .before .before .before .before .before .before .before .before .before .before .before .before .before .before .before .before .before .before .before .pre .1
+same-matches-requires c κs =
+    let asked = c .before .before .before .before .before .before .before .before .before .before .before .before .before .before .before .before .before .before .before in
+    asked .pre .1
 
 zeros-requires : tie.Need-zeros-requires
-zeros-requires c κs = c .before .before .before .before .before .before .before .before .before .before .before .before .before .before .before .before .before .before .before .before .before .pre .2
+zeros-requires c κs =
+    let asked = c .before .before .before .before .before .before .before .before .before .before .before .before .before .before .before .before .before .before .before .before .before in
+    asked .pre .2
 
 pub same-ranking-spec : {M : Type 1} → statement M
 same-ranking-spec =

@@ -10,19 +10,43 @@ slice-aggregate-size : tie.Need-slice-aggregate-size
 slice-aggregate-size c = counted _ _ (c .before .before .before .pre .1)
 
 add-next-2 : tie.Need-add-next-2
-add-next-2 c = omega (arith, sized _ _ _ _ (c .before .before .before .before .before .before .before .before .before .before .before .pre .1) (c .before .before .before .before .before .before .before .size .ensures), ranked-few _ _ _ (c .before .before .rank .ensures) (roomy _ _ (c .before .before .before .before .before .before .before .before .before .before .before .pre .1) (c .before .before .before .before .before .before .before .before .before .before .before .pre .2)), c .before .before .before .before .before .before .before .before .before .before .before .pre .0, c .before .before .before .before .before .before .before .before .before .before .before .pre .2)
+add-next-2 c =
+    let at-size = c .before .before .before .before .before .before .before in
+    let asked = at-size .before .before .before .before in
+    omega (arith, sized _ _ _ _ (asked .pre .1) (at-size .size .ensures), ranked-few _ _ _ (c .before .before .rank .ensures) (roomy _ _ (asked .pre .1) (asked .pre .2)), asked .pre .0, asked .pre .2)
 
 add-same-ranking : tie.Need-add-same-ranking
-add-same-ranking c = omega (arith, sized _ _ _ _ (c .before .before .before .before .before .before .before .before .before .before .before .before .before .pre .1) (c .before .before .before .before .before .before .before .before .before .size .ensures), ranked-few _ _ _ (c .before .before .before .before .rank .ensures) (roomy _ _ (c .before .before .before .before .before .before .before .before .before .before .before .before .before .pre .1) (c .before .before .before .before .before .before .before .before .before .before .before .before .before .pre .2)), c .before .before .before .before .before .before .before .before .before .before .before .before .before .pre .0, c .before .before .before .before .before .before .before .before .before .before .before .before .before .pre .2)
+add-same-ranking c =
+    let at-rank = c .before .before .before .before in
+    let at-size = at-rank .before .before .before .before .before in
+    let asked = at-size .before .before .before .before in
+    omega (arith, sized _ _ _ _ (asked .pre .1) (at-size .size .ensures), ranked-few _ _ _ (at-rank .rank .ensures) (roomy _ _ (asked .pre .1) (asked .pre .2)), asked .pre .0, asked .pre .2)
 
 same-ranking-requires : tie.Need-same-ranking-requires
-same-ranking-requires c κs = (omega (arith, sized _ _ _ _ (c .before .before .before .before .before .before .before .before .before .before .before .before .before .before .pre .1) (c .before .before .before .before .before .before .before .before .before .before .size .ensures), c .before .before .before .before .before .before .before .before .before .before .before .before .before .before .pre .0, c .before .before .before .before .before .before .before .before .before .before .before .before .before .before .pre .2), ranked-few _ _ _ (c .before .before .before .before .before .rank .ensures) (roomy _ _ (c .before .before .before .before .before .before .before .before .before .before .before .before .before .before .pre .1) (c .before .before .before .before .before .before .before .before .before .before .before .before .before .before .pre .2)), omega (arith, c .before .before .before .before .before .before .before .before .before .before .before .before .before .before .pre .1, c .before .before .before .before .work .given), c .before .before .before .before .before .before .before .before .before .before .before .before .before .before .pre .2)
+same-ranking-requires c κs =
+    let at-work = c .before .before .before .before in
+    let at-rank = at-work .before in
+    let at-size = at-rank .before .before .before .before .before in
+    let asked = at-size .before .before .before .before in (
+      omega (arith, sized _ _ _ _ (asked .pre .1) (at-size .size .ensures), asked .pre .0, asked .pre .2),
+      ranked-few _ _ _ (at-rank .rank .ensures) (roomy _ _ (asked .pre .1) (asked .pre .2)),
+      omega (arith, asked .pre .1, at-work .work .given),
+      asked .pre .2,
+    )
 
 add-result : tie.Need-add-result
-add-result c = omega (arith, sized _ _ _ _ (c .before .before .before .before .before .before .before .before .before .before .before .before .before .before .before .before .pre .1) (c .before .before .before .before .before .before .before .before .before .before .before .before .size .ensures), ranked-few _ _ _ (c .before .before .before .before .before .before .before .rank .ensures) (roomy _ _ (c .before .before .before .before .before .before .before .before .before .before .before .before .before .before .before .before .pre .1) (c .before .before .before .before .before .before .before .before .before .before .before .before .before .before .before .before .pre .2)), c .before .before .before .before .before .before .before .before .before .before .before .before .before .before .before .before .pre .0, c .before .before .before .before .before .before .before .before .before .before .before .before .before .before .before .before .pre .2)
+add-result c =
+    let at-rank = c .before .before .before .before .before .before .before in
+    let at-size = at-rank .before .before .before .before .before in
+    let asked = at-size .before .before .before .before in
+    omega (arith, sized _ _ _ _ (asked .pre .1) (at-size .size .ensures), ranked-few _ _ _ (at-rank .rank .ensures) (roomy _ _ (asked .pre .1) (asked .pre .2)), asked .pre .0, asked .pre .2)
 
 add-result-2 : tie.Need-add-result-2
-add-result-2 c = omega (arith, sized _ _ _ _ (c .before .before .before .before .before .before .before .before .before .before .before .before .before .before .before .before .pre .1) (c .before .before .before .before .before .before .before .before .before .before .before .before .size .ensures), ranked-few _ _ _ (c .before .before .before .before .before .before .before .rank .ensures) (roomy _ _ (c .before .before .before .before .before .before .before .before .before .before .before .before .before .before .before .before .pre .1) (c .before .before .before .before .before .before .before .before .before .before .before .before .before .before .before .before .pre .2)), c .before .before .before .before .before .before .before .before .before .before .before .before .before .before .before .before .pre .0, c .before .before .before .before .before .before .before .before .before .before .before .before .before .before .before .before .pre .2)
+add-result-2 c =
+    let at-rank = c .before .before .before .before .before .before .before in
+    let at-size = at-rank .before .before .before .before .before in
+    let asked = at-size .before .before .before .before in
+    omega (arith, sized _ _ _ _ (asked .pre .1) (at-size .size .ensures), ranked-few _ _ _ (at-rank .rank .ensures) (roomy _ _ (asked .pre .1) (asked .pre .2)), asked .pre .0, asked .pre .2)
 
 pub past-layer-spec : {M : Type 1} → statement M
 past-layer-spec =

@@ -16,7 +16,9 @@ loop-holds : tie.Need-loop-holds Inv-loop μ-loop
 loop-holds c = fill-start _ _
 
 loop-again : tie.Need-loop-again Inv-loop μ-loop
-loop-again c = fill-on _ _ (c .before .before .loop .inv) (c .before .before .before .before .before .pre .1) _ (c .before .loop-test .taken) (omega arith)
+loop-again c =
+    let asked = c .before .before .before .before .before in
+    fill-on _ _ (c .before .before .loop .inv) (asked .pre .1) _ (c .before .loop-test .taken) (omega arith)
 
 returns : tie.Need-returns Inv-loop μ-loop
 returns c = fill-end _ _ (c .before .loop .inv) (c .before .before .before .before .pre .1) (c .loop-test .left)

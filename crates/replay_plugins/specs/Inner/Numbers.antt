@@ -2,8 +2,8 @@
 -- Assumes nothing.
 use Rattle.ratio.specs.declared.Ratios.{Ratios}
 use Rattle.ratio.specs.Inner.Finite.{Plain}
-use Rattle.ratio.specs.Inner.Rounded.{EachPlain}
-use Rattle.ratio.specs.Rounded.{sum}
+use Rattle.ratio.specs.Inner.Eight.{EachPlain}
+use Rattle.ratio.specs.Eight.{sum}
 
 pub record Numbers (r : Ratios) : Type 0 where
   pub each : EachPlain r

@@ -9,8 +9,13 @@ use Rattle.replay_ratio.proofs.bounded.Tie as tie
 
 returns : tie.Need-returns
 returns c =
-    let f = c .before .before .before .args .f in
-    record { num = leb-true (f .num) MOST-NUM (and-l (leb (f .num) MOST-NUM) (leb (f .den) MOST-DEN) (c .if1 .taken)); den = leb-true (f .den) MOST-DEN (and-r (leb (f .num) MOST-NUM) (leb (f .den) MOST-DEN) (c .if1 .taken)) }
+    let asked = c .before .before .before in
+    let f = asked .args .f in
+    record {
+      num = leb-true (f .num) MOST-NUM (and-l (leb (f .num) MOST-NUM) (leb (f .den) MOST-DEN) (c .if1 .taken));
+      den = leb-true (f .den) MOST-DEN
+          (and-r (leb (f .num) MOST-NUM) (leb (f .den) MOST-DEN) (c .if1 .taken));
+    }
 
 pub bounded-spec : {M : Type 1} → statement M
 bounded-spec = tie.close (tie.spec returns (λ c. search needs))

@@ -6,7 +6,10 @@ use Rattle.replay_utf8.proofs.output_word.Statement.{statement}
 use Rattle.replay_utf8.proofs.output_word.Tie as tie
 
 add-word : tie.Need-add-word
-add-word c = omega (arith, mod-lt (c .before .before .before .before .before .before .before .before .args .i) {m = c .before .before .before .before .before .small .result} (omega arith))
+add-word c =
+    let at-small = c .before .before .before .before .before in
+    let asked = at-small .before .before .before in
+    omega (arith, mod-lt (asked .args .i) {m = at-small .small .result} (omega arith))
 
 pub output-word-spec : {M : Type 1} → statement M
 output-word-spec =

@@ -13,13 +13,23 @@ cast-not-counted : tie.Need-cast-not-counted
 cast-not-counted c = let h = fault-small _ _ (sym (c .before .place .given .1) ∙ c .before .before .before .measure .ensures) in omega arith
 
 returns-2 : tie.Need-returns-2
-returns-2 c = c .not-counted3 .ensures ∙ over-points _ (c .before .before .before .before .before .before .if1 .left) _ (sym (c .before .before .before .count .given .1) ∙ c .before .before .before .before .before .measure .ensures) (c .before .if2 .taken)
+returns-2 c =
+    let at-count = c .before .before .before in
+    let at-measure = at-count .before .before in
+    let at-if1 = at-measure .before in
+    c .not-counted3 .ensures ∙ over-points _ (at-if1 .if1 .left) _ (sym (at-count .count .given .1) ∙ at-measure .measure .ensures) (c .before .if2 .taken)
 
 returns-3 : tie.Need-returns-3
-returns-3 c = c .not-counted2 .ensures ∙ ill-formed _ (c .before .before .before .before .before .if1 .left) _ (sym (c .before .before .place .given .1) ∙ c .before .before .before .before .measure .ensures)
+returns-3 c =
+    let at-measure = c .before .before .before .before in
+    let at-if1 = at-measure .before in
+    c .not-counted2 .ensures ∙ ill-formed _ (at-if1 .if1 .left) _ (sym (c .before .before .place .given .1) ∙ at-measure .measure .ensures)
 
 returns-4 : tie.Need-returns-4
-returns-4 c = counts _ (c .before .before .before .before .before .if1 .left) _ (sym (c .before .before .count .given .1) ∙ c .before .before .before .before .measure .ensures) (c .if2 .left)
+returns-4 c =
+    let at-measure = c .before .before .before .before in
+    let at-if1 = at-measure .before in
+    counts _ (at-if1 .if1 .left) _ (sym (c .before .before .count .given .1) ∙ at-measure .measure .ensures) (c .if2 .left)
 
 pub count-utf8-spec : {M : Type 1} → statement M
 count-utf8-spec =

@@ -7,16 +7,26 @@ use Rattle.utf8.proofs.read_utf8.Statement.{statement}
 use Rattle.utf8.proofs.read_utf8.Tie as tie
 
 returns : tie.Need-returns
-returns c = rw (c .not-counted .ensures) (no-room _ _ _ (sym (c .before .before .before .before .before .count-utf8 .ensures) ∙ c .before .before .before .count .given .1) (c .before .if1 .taken))
+returns c =
+    let at-count = c .before .before .before in
+    let at-count-utf8 = at-count .before .before in
+    rw (c .not-counted .ensures) (no-room _ _ _ (sym (at-count-utf8 .count-utf8 .ensures) ∙ at-count .count .given .1) (c .before .if1 .taken))
 
 fill-requires : tie.Need-fill-requires
-fill-requires c κs = let r = readable _ _ (sym (c .before .before .before .before .before .count-utf8 .ensures) ∙ c .before .before .before .count .given .1) in (r .whole, omega arith)
+fill-requires c κs =
+    let at-count = c .before .before .before in
+    let at-count-utf8 = at-count .before .before in
+    let r = readable _ _ (sym (at-count-utf8 .count-utf8 .ensures) ∙ at-count .count .given .1) in (r .whole, omega arith)
 
 returns-2 : tie.Need-returns-2
 returns-2 c = refuses _ _ _ (sym (c .before .before .before .count-utf8 .ensures) ∙ c .before .why .given .1)
 
 returns-3 : tie.Need-returns-3
-returns-3 c = rw (c .before .before .fill .ensures) (all-read _ _ _ (sym (c .before .before .before .before .before .before .before .before .count-utf8 .ensures) ∙ c .before .before .before .before .before .before .count .given .1) (c .before .before .before .before .if1 .left))
+returns-3 c =
+    let at-if1 = c .before .before .before .before in
+    let at-count = at-if1 .before .before in
+    let at-count-utf8 = at-count .before .before in
+    rw (c .before .before .fill .ensures) (all-read _ _ _ (sym (at-count-utf8 .count-utf8 .ensures) ∙ at-count .count .given .1) (at-if1 .if1 .left))
 
 pub read-utf8-spec : {M : Type 1} → statement M
 read-utf8-spec =

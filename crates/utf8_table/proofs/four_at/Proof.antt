@@ -4,7 +4,10 @@ use Rattle.utf8_table.proofs.four_at.Statement.{statement}
 use Rattle.utf8_table.proofs.four_at.Tie as tie
 
 returns : tie.Need-returns
-returns c = rw (c .wide4 .ensures .is, c .before .before .wide3 .ensures .is, c .before .before .before .before .wide2 .ensures .is, c .before .before .before .before .before .before .wide .ensures .is)
+returns c =
+    let at-wide2 = c .before .before .before .before in
+    let at-wide = at-wide2 .before .before in
+    rw (c .wide4 .ensures .is, c .before .before .wide3 .ensures .is, at-wide2 .wide2 .ensures .is, at-wide .wide .ensures .is)
 
 pub four-at-spec : {M : Type 1} → statement M
 four-at-spec =

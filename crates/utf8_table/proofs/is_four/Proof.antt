@@ -13,7 +13,25 @@ returns c = sym (cut-four _ _ _ _ (List·getD-eq-default (c .before .before .arg
 
 returns-2 : tie.Need-returns-2
 unfolding leadsFour
-returns-2 c = rw (c .in-range3 .ensures, c .before .before .before .in-range2 .ensures, c .before .before .before .before .before .before .in-range .ensures, c .before .before .before .before .before .before .before .before .before .pick2 .ensures .is, c .before .before .before .before .before .before .before .before .before .before .pick .ensures .is, c .before .wide4 .ensures .is, c .before .before .before .before .wide3 .ensures .is, c .before .before .before .before .before .before .before .wide2 .ensures .is, c .before .before .before .before .before .before .before .before .before .before .before .wide .ensures .is)
+returns-2 c =
+    let at-in-range2 = c .before .before .before in
+    let at-wide3 = at-in-range2 .before in
+    let at-in-range = at-wide3 .before .before in
+    let at-wide2 = at-in-range .before in
+    let at-pick2 = at-wide2 .before .before in
+    let at-pick = at-pick2 .before in
+    let at-wide = at-pick .before in
+    rw (
+      c .in-range3 .ensures,
+      at-in-range2 .in-range2 .ensures,
+      at-in-range .in-range .ensures,
+      at-pick2 .pick2 .ensures .is,
+      at-pick .pick .ensures .is,
+      c .before .wide4 .ensures .is,
+      at-wide3 .wide3 .ensures .is,
+      at-wide2 .wide2 .ensures .is,
+      at-wide .wide .ensures .is,
+    )
 
 pub is-four-spec : {M : Type 1} → statement M
 is-four-spec =

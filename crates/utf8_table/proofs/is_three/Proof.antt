@@ -13,7 +13,21 @@ returns c = sym (cut-three _ _ _ (List·getD-eq-default (c .before .before .args
 
 returns-2 : tie.Need-returns-2
 unfolding leadsThree
-returns-2 c = rw (c .in-range2 .ensures, c .before .before .before .in-range .ensures, c .before .before .before .before .before .before .pick2 .ensures .is, c .before .before .before .before .before .before .before .pick .ensures .is, c .before .wide3 .ensures .is, c .before .before .before .before .wide2 .ensures .is, c .before .before .before .before .before .before .before .before .wide .ensures .is)
+returns-2 c =
+    let at-in-range = c .before .before .before in
+    let at-wide2 = at-in-range .before in
+    let at-pick2 = at-wide2 .before .before in
+    let at-pick = at-pick2 .before in
+    let at-wide = at-pick .before in
+    rw (
+      c .in-range2 .ensures,
+      at-in-range .in-range .ensures,
+      at-pick2 .pick2 .ensures .is,
+      at-pick .pick .ensures .is,
+      c .before .wide3 .ensures .is,
+      at-wide2 .wide2 .ensures .is,
+      at-wide .wide .ensures .is,
+    )
 
 pub is-three-spec : {M : Type 1} → statement M
 is-three-spec =

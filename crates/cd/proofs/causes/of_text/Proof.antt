@@ -14,7 +14,8 @@ returns-2 : tie.Need-returns-2
 returns-2 c =
     let at-first-unclassed = c .before .before in
     let at-if1 = at-first-unclassed .before in
-    c .refuse2 .ensures ∙ ap (refusedAt UNCLASSED) (at-first-unclassed .first-unclassed .ensures) ∙ text-unclassed _ _ _ _ _ (at-if1 .if1 .left) (rw (at-first-unclassed .first-unclassed .ensures) at (c .before .if2 .taken))
+    c .refuse2 .ensures ∙ ap (refusedAt UNCLASSED) (at-first-unclassed .first-unclassed .ensures) ∙ text-unclassed _ _ _ _ _ (at-if1 .if1 .left)
+    (rw (at-first-unclassed .first-unclassed .ensures) at (c .before .if2 .taken))
 
 returns-3 : tie.Need-returns-3
 returns-3 c = text-free _ _ _ _ _ (c .before .before .if1 .left) (rw (c .before .first-unclassed .ensures) at (c .if2 .left))

@@ -25,21 +25,34 @@ add-end : tie.Need-add-end
 add-end c =
     let at-rank = c .before .before .before in
     let asked = at-rank .before .before .before .before .before .before .before .before .before in
-    omega (arith, standing-end (asked .args .threshold) (asked .args .small) (now (asked .args .classes)) (now (asked .args .languages)) (now (asked .args .included)) _ _ _ (asked .pre .1) (asked .args .s) (at-rank .rank .ensures) (c .order-start .ensures))
+    omega (
+      arith,
+      standing-end (asked .args .threshold) (asked .args .small) (now (asked .args .classes)) (now (asked .args .languages))
+          (now (asked .args .included)) _ _ _ (asked .pre .1) (asked .args .s) (at-rank .rank .ensures) (c .order-start .ensures),
+    )
 
 part-read-order-end : tie.Need-part-read-order-end
 part-read-order-end c =
     let at-order-start = c .before in
     let at-rank = at-order-start .before .before .before in
     let asked = at-rank .before .before .before .before .before .before .before .before .before in
-    omega (arith, standing-end (asked .args .threshold) (asked .args .small) (now (asked .args .classes)) (now (asked .args .languages)) (now (asked .args .included)) _ _ _ (asked .pre .1) (asked .args .s) (at-rank .rank .ensures) (at-order-start .order-start .ensures), ranked-kept _ _ _ (at-rank .rank .ensures) (asked .pre .1) .size)
+    omega (
+      arith,
+      standing-end (asked .args .threshold) (asked .args .small) (now (asked .args .classes)) (now (asked .args .languages))
+          (now (asked .args .included)) _ _ _ (asked .pre .1) (asked .args .s) (at-rank .rank .ensures) (at-order-start .order-start .ensures),
+      ranked-kept _ _ _ (at-rank .rank .ensures) (asked .pre .1) .size,
+    )
 
 read-order-requires : tie.Need-read-order-requires
 read-order-requires c κs =
     let at-order-start = c .before .before in
     let at-rank = at-order-start .before .before .before in
-    let asked = at-rank .before .before .before .before .before .before .before .before .before in
-    (asked .pre .0, standing-few (asked .args .threshold) (asked .args .small) (now (asked .args .classes)) (now (asked .args .languages)) (now (asked .args .included)) _ _ _ (asked .pre .1) (asked .args .s) (at-rank .rank .ensures) (at-order-start .order-start .ensures), asked .pre .2)
+    let asked = at-rank .before .before .before .before .before .before .before .before .before in (
+      asked .pre .0,
+      standing-few (asked .args .threshold) (asked .args .small) (now (asked .args .classes)) (now (asked .args .languages))
+          (now (asked .args .included)) _ _ _ (asked .pre .1) (asked .args .s) (at-rank .rank .ensures) (at-order-start .order-start .ensures),
+      asked .pre .2,
+    )
 
 returns-2 : tie.Need-returns-2
 returns-2 c =
@@ -47,8 +60,11 @@ returns-2 c =
     let at-rank = at-order-start .before .before .before in
     let at-if1 = at-rank .before .before in
     let at-size = at-if1 .before in
-    let asked = at-size .before .before .before .before .before .before in
-    (layer-taken _ _ _ _ _ _ _ _ (asked .pre .1) _ (at-rank .rank .ensures) (at-order-start .order-start .ensures) (rw (at-size .size .ensures) at (at-if1 .if1 .left)) _ (c .read-order .ensures), ranked-kept _ _ _ (at-rank .rank .ensures) (asked .pre .1))
+    let asked = at-size .before .before .before .before .before .before in (
+      layer-taken _ _ _ _ _ _ _ _ (asked .pre .1) _ (at-rank .rank .ensures) (at-order-start .order-start .ensures)
+          (rw (at-size .size .ensures) at (at-if1 .if1 .left)) _ (c .read-order .ensures),
+      ranked-kept _ _ _ (at-rank .rank .ensures) (asked .pre .1),
+    )
 
 pub read-layer-spec : {M : Type 1} → statement M
 read-layer-spec =

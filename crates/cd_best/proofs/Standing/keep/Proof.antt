@@ -6,7 +6,9 @@ use Rattle.cd_best.proofs.Standing.keep.Statement.{statement}
 use Rattle.cd_best.proofs.Standing.keep.Tie as tie
 
 returns : tie.Need-returns
-returns c = keep-is (c .before .before .before .before .before .args .self) (c .before .before .before .before .before .args .at) (c .before .before .before .before .before .args .score) _ _ (c .before .before .better .ensures) (c .before .is-sufficient .ensures .0)
+returns c =
+    let asked = c .before .before .before .before .before in
+    keep-is (asked .args .self) (asked .args .at) (asked .args .score) _ _ (c .before .before .better .ensures) (c .before .is-sufficient .ensures .0)
 
 pub keep-spec : {M : Type 1} → statement M
 keep-spec =

@@ -23,7 +23,10 @@ unfolding firstMissing
 loop-holds c = (omega arith, first-start _ _)
 
 returns : tie.Need-returns Inv-loop μ-loop
-returns c = sym (first-hit _ _ _ (c .before .before .before .loop-test .taken) (ap not (sym (c .before .in-table .ensures)) ∙ c .if1 .taken)) ∙ c .before .before .before .before .loop .inv .1
+returns c =
+    let at-loop-test = c .before .before .before in
+    let at-loop = at-loop-test .before in
+    sym (first-hit _ _ _ (at-loop-test .loop-test .taken) (ap not (sym (c .before .in-table .ensures)) ∙ c .if1 .taken)) ∙ at-loop .loop .inv .1
 
 add-i : tie.Need-add-i Inv-loop μ-loop
 add-i c = omega arith
@@ -32,7 +35,10 @@ loop-less : tie.Need-loop-less Inv-loop μ-loop
 loop-less c = omega arith
 
 loop-again : tie.Need-loop-again Inv-loop μ-loop
-loop-again c = (omega arith, sym (first-miss _ _ _ (c .before .before .before .loop-test .taken) (ap not (sym (c .before .in-table .ensures)) ∙ c .if1 .left)) ∙ c .before .before .before .before .loop .inv .1)
+loop-again c =
+    let at-loop-test = c .before .before .before in
+    let at-loop = at-loop-test .before in
+    (omega arith, sym (first-miss _ _ _ (at-loop-test .loop-test .taken) (ap not (sym (c .before .in-table .ensures)) ∙ c .if1 .left)) ∙ at-loop .loop .inv .1)
 
 returns-2 : tie.Need-returns-2 Inv-loop μ-loop
 returns-2 c = sym (first-end _ _ _ (omega arith)) ∙ c .before .loop .inv .1

@@ -39,7 +39,9 @@ loop-holds c =
     putting-start _ 0 _ (omega (arith, most, letters-length (now (called .args .t)) (called .args .i), called .pre .2))
 
 letter-at-requires : tie.Need-letter-at-requires Inv-loop μ-loop
-letter-at-requires c κs = (c .before .before .before .before .before .pre .0, c .before .before .before .before .before .pre .1, rw (c .before .before .count-at .ensures) at (c .loop-test .taken))
+letter-at-requires c κs =
+    let asked = c .before .before .before .before .before in
+    (asked .pre .0, asked .pre .1, rw (c .before .before .count-at .ensures) at (c .loop-test .taken))
 
 slice-write-out : tie.Need-slice-write-out Inv-loop μ-loop
 slice-write-out c =

@@ -34,16 +34,16 @@ enum-known-c c = c .match .keys1
 enum-told : tie.Need-enum-told Inv-loop μ-loop
 enum-told c = c .match .keys2
 
-cast-refuse : tie.Need-cast-refuse Inv-loop μ-loop
-cast-refuse c = omega arith
+cast-unscored : tie.Need-cast-unscored Inv-loop μ-loop
+cast-unscored c = omega arith
 
-refuse-requires : tie.Need-refuse-requires Inv-loop μ-loop
-refuse-requires c κs = tt
+unscored-requires : tie.Need-unscored-requires Inv-loop μ-loop
+unscored-requires c κs = tt
 
 returns : tie.Need-returns Inv-loop μ-loop
 returns c =
     let turn = c .before .before .before .before in
-    c .refuse .ensures
+    c .unscored .ensures
     ∙ going-missing _ _ _ _ (turn .before .loop .inv) (turn .loop-test .taken)
     (sym (c .before .before .before .class-at .ensures) ∙ c .before .enum-told .given .1)
 
@@ -138,8 +138,8 @@ scan-text-in-spec =
     class-at-requires
     enum-known-c
     enum-told
-    cast-refuse
-    refuse-requires
+    cast-unscored
+    unscored-requires
     returns
     fed-requires
     is-over-requires

@@ -6,7 +6,7 @@ use Rattle.md.proofs.scan.stopped_after.Statement.{statement}
 use Rattle.md.proofs.scan.stopped_after.Tie as tie
 
 returns : tie.Need-returns
-returns c = c .refuse .ensures ∙ stopped-missing _ _ _ _ _ (c .before .before .unclassed-from .ensures) (c .before .if1 .taken)
+returns c = c .unscored .ensures ∙ stopped-missing _ _ _ _ _ (c .before .before .unclassed-from .ensures) (c .before .if1 .taken)
 
 returns-2 : tie.Need-returns-2
 returns-2 c = c .scored .ensures ∙ stopped-scored _ _ _ _ _ (c .before .before .unclassed-from .ensures) (c .before .if1 .left)

@@ -33,7 +33,10 @@ enum-told-2 : tie.Need-enum-told-2 Inv-loop μ-loop
 enum-told-2 c = c .match .keys2
 
 returns : tie.Need-returns Inv-loop μ-loop
-returns c = sym (first-hit _ _ _ (c .before .before .before .loop-test .taken) (is-unclassed _ _ _ (sym (c .before .before .class-at .ensures) ∙ c .enum-told2 .given .1))) ∙ c .before .before .before .before .loop .inv .1
+returns c =
+    let at-loop-test = c .before .before .before in
+    let at-loop = at-loop-test .before in
+    sym (first-hit _ _ _ (at-loop-test .loop-test .taken) (is-unclassed _ _ _ (sym (c .before .before .class-at .ensures) ∙ c .enum-told2 .given .1))) ∙ at-loop .loop .inv .1
 
 add-i : tie.Need-add-i Inv-loop μ-loop
 add-i c = omega arith
@@ -42,7 +45,10 @@ loop-less : tie.Need-loop-less Inv-loop μ-loop
 loop-less c = omega arith
 
 loop-again : tie.Need-loop-again Inv-loop μ-loop
-loop-again c = (omega arith, sym (first-miss _ _ _ (c .before .before .before .loop-test .taken) (is-classed _ _ _ _ (sym (c .before .before .class-at .ensures) ∙ c .enum-told .given .1))) ∙ c .before .before .before .before .loop .inv .1)
+loop-again c =
+    let at-loop-test = c .before .before .before in
+    let at-loop = at-loop-test .before in
+    (omega arith, sym (first-miss _ _ _ (at-loop-test .loop-test .taken) (is-classed _ _ _ _ (sym (c .before .before .class-at .ensures) ∙ c .enum-told .given .1))) ∙ at-loop .loop .inv .1)
 
 returns-2 : tie.Need-returns-2 Inv-loop μ-loop
 returns-2 c = sym (first-end _ _ _ (omega arith)) ∙ c .before .loop .inv .1

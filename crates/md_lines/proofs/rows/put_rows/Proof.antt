@@ -32,7 +32,10 @@ put-line-requires c κs =
     )
 
 add-from : tie.Need-add-from Inv-loop μ-loop
-add-from c = omega (arith, c .before .before .before .before .before .before .before .before .end-of-line .ensures .inside, c .before .before .before .before .before .before .before .before .before .before .before .before .before .before .before .before .pre .0)
+add-from c =
+    let at-end-of-line = c .before .before .before .before .before .before .before .before in
+    let asked = at-end-of-line .before .before .before .before .before .before .before .before in
+    omega (arith, at-end-of-line .end-of-line .ensures .inside, asked .pre .0)
 
 add-at : tie.Need-add-at Inv-loop μ-loop
 add-at c =
@@ -43,7 +46,10 @@ add-at c =
     omega (arith, small)
 
 loop-less : tie.Need-loop-less Inv-loop μ-loop
-loop-less c = omega (arith, c .before .before .before .before .before .before .before .before .end-of-line .ensures .begins, c .before .before .before .before .before .before .before .before .before .loop-test .taken)
+loop-less c =
+    let at-end-of-line = c .before .before .before .before .before .before .before .before in
+    let at-loop-test = at-end-of-line .before in
+    omega (arith, at-end-of-line .end-of-line .ensures .begins, at-loop-test .loop-test .taken)
 
 loop-again : tie.Need-loop-again Inv-loop μ-loop
 loop-again c =

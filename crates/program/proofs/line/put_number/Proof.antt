@@ -8,12 +8,12 @@ use borrow.Author.Needs.{needs}
 use Rattle.program.proofs.line.put_number.Statement.{statement}
 use Rattle.program.proofs.line.put_number.Tie as tie
 
-put-requires-2 : tie.Need-put-requires-2
-put-requires-2 c κs =
+put-piece-requires-2 : tie.Need-put-piece-requires-2
+put-piece-requires-2 c κs =
     let made = c .before .before .before .before .before .before in
     let n = made .before .before .before .before .args .n in
     let h : n < 2 ^ 32 = search needs in
-    omega (arith, few-digits n (made .decimal .result) h (made .decimal .ensures .1 .0), c .before .before .before .before .put .ensures .ends, made .decimal .ensures .0 .1)
+    omega (arith, few-digits n (made .decimal .result) h (made .decimal .ensures .1 .0), c .before .before .before .before .put-piece .ensures .ends, made .decimal .ensures .0 .1)
 
 returns : tie.Need-returns
 returns c =
@@ -21,8 +21,8 @@ returns c =
     let made = word .before .before in
     let n = made .before .before .before .before .args .n in
     let h : n < 2 ^ 32 = search needs in
-    let digits = goes-as (made .decimal .ensures .1 .1 ∙ written _ _ h (made .decimal .ensures .1 .0)) (c .before .before .put2 .ensures) in
-    numbered _ _ (goes-on (word .put .ensures) digits)
+    let digits = goes-as (made .decimal .ensures .1 .1 ∙ written _ _ h (made .decimal .ensures .1 .0)) (c .before .before .put-piece2 .ensures) in
+    numbered _ _ (goes-on (word .put-piece .ensures) digits)
 
 pub put-number-spec : {M : Type 1} → statement M
 put-number-spec =
@@ -32,6 +32,6 @@ put-number-spec =
     (λ c κs. search needs)
     (λ c. search needs)
     (λ c. search needs)
-    put-requires-2
+    put-piece-requires-2
     (λ c. search needs)
     returns)

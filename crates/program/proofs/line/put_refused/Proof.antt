@@ -9,7 +9,7 @@ returns c =
     let end = c .before .before in
     let place = end .before .before .before .before .before in
     let number = place .before .before .before .before .before in
-    goes-as (refused-pieces (number .before .before .before .before .args .why)) (goes-on (goes-on (number .put-number .ensures .goes) (place .put-number2 .ensures .goes)) (end .put .ensures))
+    goes-as (refused-pieces (number .before .before .before .before .args .why)) (goes-on (goes-on (number .put-number .ensures .goes) (place .put-number2 .ensures .goes)) (end .put-piece .ensures))
 
 pub put-refused-spec : {M : Type 1} → statement M
 put-refused-spec =

@@ -17,10 +17,10 @@ returns c =
     let digits = fed .before .before .before .before .before in
     let begin = digits .before .before .before .before .before in
     let made = begin .before .before .before in
-    let bits = goes-as (made .hex .ensures ∙ ap hex (made .before .bits-of .ensures)) (digits .put2 .ensures) in
+    let bits = goes-as (made .hex .ensures ∙ ap hex (made .before .bits-of .ensures)) (digits .put-piece2 .ensures) in
     let mark = goes-as (ap (λ (z : ℕ). codes " stopped " ++ decimal z) (stopped .before .one .ensures .is)) (stopped .put-number2 .ensures .goes) in
     goes-as (score-pieces (made .before .before .before .args .score))
-    (goes-on (goes-on (goes-on (goes-on (begin .put .ensures) bits) (fed .put-number .ensures .goes)) mark) (end .put3 .ensures))
+    (goes-on (goes-on (goes-on (goes-on (begin .put-piece .ensures) bits) (fed .put-number .ensures .goes)) mark) (end .put-piece3 .ensures))
 
 pub put-score-spec : {M : Type 1} → statement M
 put-score-spec =

@@ -1,7 +1,7 @@
 -- None is a NaN, so each has its bits. Assumes nothing.
 use borrow.Author.Needs.{needs}
 use mathlib.Core.Path.{refl}
-use Rattle.ratio.specs.Rounded.{bits}
+use Rattle.ratio.specs.Eight.{bits}
 use Rattle.ratio.proofs.rounding.bits.Statement.{statement}
 use Rattle.ratio.proofs.rounding.bits.Tie as tie
 

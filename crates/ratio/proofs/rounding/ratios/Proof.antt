@@ -1,7 +1,6 @@
 -- Each of the eight is what `ratio_of` ensures of its counts. Assumes nothing.
 use borrow.Author.Needs.{needs}
-use Rattle.ratio.specs.Eight.{fractionsOf}
-use Rattle.ratio.specs.Rounded.{ratios}
+use Rattle.ratio.specs.Eight.{fractionsOf, ratios}
 use Rattle.ratio.proofs.rounding.ratios.Statement.{statement}
 use Rattle.ratio.proofs.rounding.ratios.Tie as tie
 

@@ -1,6 +1,6 @@
 -- The additions of the definition, in its order. Assumes nothing.
 use mathlib.Core.Path.{refl}
-use Rattle.ratio.specs.Rounded.{sum}
+use Rattle.ratio.specs.Eight.{sum}
 use Rattle.ratio.proofs.rounding.sum.Statement.{statement}
 use Rattle.ratio.proofs.rounding.sum.Tie as tie
 

@@ -16,7 +16,10 @@ returns-2 c = simp (sym (c .before .before .before .before .is-set .ensures) ∙
 
 returns-3 : tie.Need-returns-3
 unfolding feed
-returns-3 c = simp (sym (c .before .before .before .before .is-set .ensures) ∙ c .before .before .before .if1 .left) (c .plain .ensures ∙ plain-printable _ _ (sym (c .before .before .marked .ensures) ∙ c .before .if2 .left))
+returns-3 c =
+    let at-if1 = c .before .before .before in
+    let at-is-set = at-if1 .before in
+    simp (sym (at-is-set .is-set .ensures) ∙ at-if1 .if1 .left) (c .plain .ensures ∙ plain-printable _ _ (sym (c .before .before .marked .ensures) ∙ c .before .if2 .left))
 
 pub feed-spec : {M : Type 1} → statement M
 feed-spec =

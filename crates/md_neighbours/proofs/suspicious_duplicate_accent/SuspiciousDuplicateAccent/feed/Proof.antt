@@ -17,7 +17,10 @@ returns-2 c = simp (sym (c .before .before .before .before .latin-letter .ensure
 
 returns-3 : tie.Need-returns-3
 unfolding feed
-returns-3 c = simp (sym (c .before .before .before .before .latin-letter .ensures) ∙ not-false _ (c .before .before .before .if1 .left)) (c .plain .ensures ∙ plain-letter _ _ (sym (c .before .before .is-set .ensures) ∙ c .before .if2 .left))
+returns-3 c =
+    let at-if1 = c .before .before .before in
+    let at-latin-letter = at-if1 .before in
+    simp (sym (at-latin-letter .latin-letter .ensures) ∙ not-false _ (at-if1 .if1 .left)) (c .plain .ensures ∙ plain-letter _ _ (sym (c .before .before .is-set .ensures) ∙ c .before .if2 .left))
 
 pub feed-spec : {M : Type 1} → statement M
 feed-spec =

@@ -16,7 +16,10 @@ returns-2 c = simp (sym (c .before .before .before .is-set .ensures) ∙ c .befo
 
 returns-3 : tie.Need-returns-3
 unfolding feed
-returns-3 c = simp (sym (c .before .before .before .before .is-set .ensures) ∙ c .before .before .before .if1 .left, ne-eqb _ _ (c .before .if2 .left)) (c .inside .ensures)
+returns-3 c =
+    let at-if1 = c .before .before .before in
+    let at-is-set = at-if1 .before in
+    simp (sym (at-is-set .is-set .ensures) ∙ at-if1 .if1 .left, ne-eqb _ _ (c .before .if2 .left)) (c .inside .ensures)
 
 pub feed-spec : {M : Type 1} → statement M
 feed-spec =

@@ -11,7 +11,10 @@ returns c = simp (sym (c .before .before .closes .ensures) ∙ c .before .if1 .t
 
 returns-2 : tie.Need-returns-2
 unfolding inside
-returns-2 c = simp (sym (c .before .before .before .before .closes .ensures) ∙ c .before .before .before .if1 .left, sym (c .before .before .counted .ensures) ∙ c .before .if2 .taken) (c .symbol .ensures)
+returns-2 c =
+    let at-if1 = c .before .before .before in
+    let at-closes = at-if1 .before in
+    simp (sym (at-closes .closes .ensures) ∙ at-if1 .if1 .left, sym (c .before .before .counted .ensures) ∙ c .before .if2 .taken) (c .symbol .ensures)
 
 returns-3 : tie.Need-returns-3
 unfolding inside

@@ -4,8 +4,8 @@ use native.Mathlib.Omega.{arith}
 use borrow.Author.Needs.{needs}
 use lib.ListN.{length}
 use Rattle.md_eight.proofs.Loops.Detectors.{Within, start-within, feed-within, within-room, within-countable}
-use Rattle.replay_plugins.proofs.fed.Statement.{statement}
-use Rattle.replay_plugins.proofs.fed.Tie as tie
+use Rattle.replay_plugins.proofs.fed_all.Statement.{statement}
+use Rattle.replay_plugins.proofs.fed_all.Tie as tie
 
 abbrev Inv-loop : tie.InvT-loop
 Inv-loop case text s₀ i₀ s i = (i ≤ length text) × Within i s
@@ -25,15 +25,15 @@ feed-requires c κs =
 loop-again : tie.Need-loop-again Inv-loop μ-loop
 loop-again c =
     let at = c .before .before .before .before .before .before in
-    (omega arith, rw (c .feed .ensures) (feed-within (at .loop .i) (at .loop .s) (at .loop .inv .1) (c .before .before .before .letter .result) (c .before .suspicious .result)))
+    (omega arith, rw (c .feed .ensures) (feed-within (at .loop .i) (at .loop .s) (at .loop .inv .1) (c .before .before .before .letter-class .result) (c .before .suspicious .result)))
 
 returns : tie.Need-returns Inv-loop μ-loop
 returns c =
     let at = c .before in
     within-countable (at .loop .i) (at .loop .s) (at .loop .inv .1) (omega arith)
 
-pub fed-spec : {M : Type 1} → statement M
-fed-spec =
+pub fed-all-spec : {M : Type 1} → statement M
+fed-all-spec =
     tie.close
     (tie.spec
     Inv-loop

@@ -7,8 +7,8 @@ use Rattle.base.specs.Put.{put}
 use mathlib.Core.Path.{_≡_, ap}
 use Prim.Native.Nat.{ℕ, _+_, _-_, _≤_}
 use borrow.Author.Needs.{needs}
-use Rattle.program.proofs.line.put.Statement.{statement}
-use Rattle.program.proofs.line.put.Tie as tie
+use Rattle.program.proofs.line.put_piece.Statement.{statement}
+use Rattle.program.proofs.line.put_piece.Tie as tie
 
 -- the part from `at` on, with a piece copied to its front, put back into the whole
 part-put : (b p ys : List ℕ) (at : ℕ) → at + length p ≤ length b
@@ -30,7 +30,7 @@ returns c =
       ends = ap (λ (z : ℕ). start .args .at + z) (copied .ensures .0);
     }
 
-pub put-spec : {M : Type 1} → statement M
-put-spec =
+pub put-piece-spec : {M : Type 1} → statement M
+put-piece-spec =
     tie.close
     (tie.spec (λ c. search needs) (λ c. search needs) (λ c. search needs) (λ c κs. search needs) (λ c. search needs) (λ c. search needs) returns)
