@@ -28,7 +28,6 @@ BAD-RING = 15
 abbrev pub RING-FULL : ℕ
 RING-FULL = 16
 
--- ---- answers
 -- head and count where no cause is there, else the refusal
 unfoldable pub keptUnless : Cause → ℕ → ℕ → Ringed
 keptUnless Allowed head count = Keep (record { head = head; count = count })
@@ -45,7 +44,7 @@ unfoldable pub values : Ringed → Values
 values (Keep k) = record { number = ACCEPTED; place = 0; head = k .head; count = k .count }
 values (NotKept r) = record { number = r .number; place = r .place; head = 0; count = 0 }
 
--- ---- opening
+-- opening: nothing in the ring
 unfoldable pub openAnswer : List ℕ → Ringed
 openAnswer ring = keptUnless (given (wrongSize ring) BAD-RING 0) 0 0
 
@@ -54,7 +53,6 @@ module _ (ring : List ℕ) (head count : ℕ) where
   unfoldable pub badRing : Cause
   badRing = given (wrongRing ring head count) BAD-RING 0
 
-  -- ---- putting
   -- 16
   unfoldable pub full : Cause
   full = given (eqb count (slots ring)) RING-FULL 0
@@ -62,6 +60,7 @@ module _ (ring : List ℕ) (head count : ℕ) where
   unfoldable pub putCauses : Cause
   putCauses = firstOf (badRing ∷ full ∷ [])
 
+  -- one record more
   unfoldable pub putAnswer : Ringed
   putAnswer = keptUnless putCauses head (count + 1)
 
@@ -77,7 +76,7 @@ module _ (ring : List ℕ) (head count : ℕ) where
   unfoldable pub ringAfter : Verdict → List ℕ
   ringAfter v = ringUnless putCauses v
 
-  -- ---- flushing up to `most` records into an output of some room
+  -- flushing up to `most` records into an output of some room
   module _ (most : ℕ) where
     -- 3
     unfoldable pub noRoom : ℕ → Cause
@@ -86,6 +85,7 @@ module _ (ring : List ℕ) (head count : ℕ) where
     unfoldable pub flushCauses : ℕ → Cause
     flushCauses room = firstOf (badRing ∷ noRoom room ∷ [])
 
+    -- so many records fewer, and the oldest so many slots further
     unfoldable pub flushAnswer : ℕ → Ringed
     flushAnswer room = keptUnless (flushCauses room) ((head + min most count) % slots ring) (count - min most count)
 
