@@ -9,6 +9,7 @@ mod edges;
 mod library;
 mod lines;
 mod random;
+mod ring;
 mod tables;
 mod texts;
 mod walls;
@@ -541,6 +542,9 @@ impl Run {
         self.during("many lines in one call", |run| run.bursts(alphabet, run.times(1_000, 20_000), classes, pairs));
         self.during("causes of many lines", |run| run.causes_of_bursts(run.times(2, 20), classes, pairs));
         self.during("the Rust package's lines and choices", |run| run.package(alphabet, run.times(500, 10_000), classes, pairs));
+        self.during("edges of rings", |run| run.ring_edges());
+        self.during("rings", |run| run.rings(run.times(1_500, 30_000)));
+        self.during("the Rust package's rings", |run| run.package_rings(run.times(500, 10_000)));
         self.during("texts of every script", |run| run.random_texts(alphabet, run.times(10_000, 100_000), real));
         self.during("short texts, all tables", |run| run.short_texts(&alphabet.representatives, run.times(2, 3) as u32, real));
         self.during("short texts, their own records", |run| {
