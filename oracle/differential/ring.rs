@@ -2,38 +2,13 @@
 // ring must hold. A history is one ring from its opening on; its calls get the head and count of the last accepted answer, and between them stand calls that get a wrong size, head, count or
 // output. Compared after each call: the answer, every byte of the ring, every byte of the output, and what stands beside them.
 use crate::Run;
-use crate::library::{BYTE, Guarded};
+use crate::library::{self, BYTE, Guarded, HostRing, ring_flush as flush, ring_open as open};
 use crate::random::Random;
 use std::collections::VecDeque;
 
 const RECORD: usize = 32;
 const MOST: usize = 2_048;
 const CALLS: usize = 200; // of a history
-
-#[repr(C)]
-#[derive(Clone, Copy, Debug, Default, PartialEq)]
-struct HostRing {
-    number: u32,
-    place: u32,
-    head: u32,
-    count: u32,
-}
-
-unsafe extern "C" {
-    fn drasumira_ring_open(ring: *const u8, n: usize) -> HostRing;
-    fn drasumira_ring_put(
-        ring: *mut u8,
-        n: usize,
-        head: u32,
-        count: u32,
-        line: u64,
-        bits: u32,
-        fed: u32,
-        stopped: u32,
-        refusal: u32,
-    ) -> HostRing;
-    fn drasumira_ring_flush(ring: *const u8, n: usize, head: u32, count: u32, most: u32, out: *mut u8, room: usize) -> HostRing;
-}
 
 #[derive(Clone, Copy, Debug)]
 struct Numbers {
@@ -53,17 +28,8 @@ impl Numbers {
     }
 }
 
-fn open(ring: &[u8]) -> HostRing {
-    unsafe { drasumira_ring_open(ring.as_ptr(), ring.len()) }
-}
-
 fn put(ring: &mut [u8], head: u32, count: u32, n: &Numbers) -> HostRing {
-    let [bits, fed, stopped, refusal] = n.words;
-    unsafe { drasumira_ring_put(ring.as_mut_ptr(), ring.len(), head, count, n.line, bits, fed, stopped, refusal) }
-}
-
-fn flush(ring: &[u8], head: u32, count: u32, most: u32, out: &mut [u8]) -> HostRing {
-    unsafe { drasumira_ring_flush(ring.as_ptr(), ring.len(), head, count, most, out.as_mut_ptr(), out.len()) }
+    library::ring_put(ring, head, count, n.line, n.words)
 }
 
 fn refused(number: u32) -> HostRing {
