@@ -9,9 +9,6 @@ mod coherence;
 mod library;
 mod lines;
 mod ring;
-#[path = "../differential/walls.rs"]
-#[allow(dead_code)]
-mod walls;
 
 use library::Lent;
 use oracle::open::Opened;

@@ -1,5 +1,8 @@
 // The proved library, called by the C ABI, with every lent slice between canaries or against a wall (walls.rs).
-pub use crate::walls::Guarded;
+#[path = "walls.rs"]
+pub mod walls;
+
+pub use walls::Guarded;
 
 #[repr(C)]
 #[derive(Clone, Copy, Debug, Default, PartialEq)]
