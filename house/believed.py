@@ -16,6 +16,7 @@ CALLS = {
     "md_chooser": ["choose", "verdict"],
     "cd": ["coherence_ratio", "coherence_ratio_default"],
     "cd_languages": ["check_languages", "check_included"],
+    "ring": ["open_ring", "put_record", "flush_records"],
     "program": ["report"],
     "host": None,
 }
@@ -26,6 +27,7 @@ STATEMENTS = [
     ("page", "RoundTrips", "write-after-read"),  # writing what was read gives the same bytes
     ("page", "RoundTrips", "read-after-write"),  # reading what was written gives the same text
     ("marked_cases", "Marked", "marked"),  # 01's cases (a) to (l)
+    ("ring", "History", "history"),  # 02 [11]: the accepted puts of a history of calls are the flushed records and those in the ring
 ]
 
 
@@ -202,7 +204,7 @@ class House:
             for _, names, aliases, clause in self.clauses(crate, None if crate != "host" else None, ("requires", "ensures")):
                 roots |= self.contract(names, aliases, clause)
         # host's own inner functions
-        for _, names, aliases, clause in self.clauses("host", ["flat_checked", "flat_read", "flat_scored", "flat_judged"], ("requires", "ensures")):
+        for _, names, aliases, clause in self.clauses("host", ["flat_checked", "flat_read", "flat_scored", "flat_judged", "flat_ringed"], ("requires", "ensures")):
             roots |= self.contract(names, aliases, clause)
         seen, types = self.close(roots)
         return seen - believed, types

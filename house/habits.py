@@ -19,9 +19,11 @@ FAMILIES = {
     "ratios": "the eight ratios: of counts, and of the detectors by their counts",
     "letter": "a detector's step at a letter",
     "plain": "a detector's step at a character that only counts",
-    "first_bad": "the first bad record of a lent table",
+    "first_bad": "the first bad entry of a lent table",
     "least": "the lesser of two numbers",
     "clear": "all words or bytes made 0",
+    "holds": "whether a number stands in a list, of u32 or of u16",
+    "wide": "a byte or an entry of 16 bits as a u32",
 }
 # what a program that replays a list does with a case
 REPLAYS = re.compile(r"same_\w+|sum_bits|replay_all")

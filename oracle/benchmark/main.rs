@@ -8,6 +8,7 @@ mod coherence;
 #[allow(dead_code)]
 mod library;
 mod lines;
+mod ring;
 
 use library::Lent;
 use oracle::open::Opened;
@@ -123,13 +124,14 @@ fn table(all: &Lent, none: &Lent) {
 fn main() {
     let words: Vec<String> = std::env::args().skip(1).collect();
     let words: Vec<&str> = words.iter().map(String::as_str).collect();
-    let dir = words.first().expect("usage: benchmark TABLES [coherence [SIDE NAME LENGTH CALLS] | SIDE NAME LENGTH all|none CALLS]");
+    let dir = words.first().expect("usage: benchmark TABLES [ring | coherence [SIDE NAME LENGTH CALLS] | SIDE NAME LENGTH all|none CALLS]");
     let file = |name: &str| std::fs::read(format!("{dir}/{name}.bin")).expect(name);
     let (classes, pairs) = (file("classes"), file("pairs"));
     let (all, none) = (Lent::new(&classes, &pairs), Lent::new(&[], &pairs));
     let rankings = coherence::Tables { classes: classes.clone(), pairs: pairs.clone(), languages: file("languages") };
     match words[1..] {
         ["coherence"] => coherence::table(&rankings),
+        ["ring"] => ring::table(),
         ["coherence", side, name, n, calls] => {
             coherence::calls(&rankings, side, name, n.parse().expect("a length"), calls.parse().expect("a number of calls"))
         }
@@ -141,6 +143,7 @@ fn main() {
         }
         _ => {
             table(&all, &none);
+            ring::table();
             println!();
             coherence::table(&rankings)
         }

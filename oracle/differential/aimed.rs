@@ -272,6 +272,14 @@ fn words(r: &mut Random, s: &Shelves) -> Vec<u32> {
     text
 }
 
+// One word of 1 to 5 letters and a last character that is a symbol with an accent or a case, where there is one.
+fn odd_words(r: &mut Random, s: &Shelves) -> Vec<u32> {
+    let mut text: Vec<u32> = (0..1 + r.below(5)).map(|_| ascii_letter(r)).collect();
+    text.push(one(r, &s.odd_ends, 0x24));
+    text.extend(some(r, 1, &s.ends, 0x20));
+    text
+}
+
 // 14 to 18 CJK characters with up to five stops among them.
 fn stops(r: &mut Random, s: &Shelves) -> Vec<u32> {
     let (n, k) = (14 + r.below(5), r.below(6));
@@ -318,7 +326,7 @@ fn archaic(r: &mut Random, s: &Shelves) -> Vec<u32> {
 }
 
 type Aim = fn(&mut Random, &Shelves) -> Vec<u32>;
-pub const AIMS: [Aim; 8] = [symbols, accents, unprintables, ranges, doubled, words, stops, archaic];
+pub const AIMS: [Aim; 9] = [symbols, accents, unprintables, ranges, doubled, words, odd_words, stops, archaic];
 
 // A text of n characters: several aims one after the other, and letters that change nothing behind them.
 pub fn long(r: &mut Random, s: &Shelves, n: usize) -> Vec<u32> {

@@ -90,13 +90,17 @@ pub fn refused((number, place): Refusal) -> HostScore {
     HostScore { number, place, ..HostScore::default() }
 }
 
+fn decoded(bytes: &[u8]) -> Result<Vec<u32>, Refusal> {
+    let text = std::str::from_utf8(bytes).map_err(|e| (2, e.valid_up_to() as u32))?;
+    Ok(text.chars().map(|c| c as u32).collect())
+}
+
 // The causes of reading that lie in the bytes, "1 (bytes), 2, 1 (code points)", or the code points.
 pub fn points(bytes: &[u8]) -> Result<Vec<u32>, Refusal> {
     if bytes.len() > LONGEST_BYTES {
         return Err((1, 0));
     }
-    let text = std::str::from_utf8(bytes).map_err(|e| (2, e.valid_up_to() as u32))?;
-    let points: Vec<u32> = text.chars().map(|c| c as u32).collect();
+    let points = decoded(bytes)?;
     if points.len() > LONGEST_TEXT { Err((1, 0)) } else { Ok(points) }
 }
 

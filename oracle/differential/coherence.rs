@@ -473,6 +473,18 @@ impl Run {
         }
     }
 
+    // The longest text and one more, with each other cause behind it.
+    fn longest_rankings(&mut self, classes: &[u8], pairs: &[u8], own: &Tables) {
+        let bad = [Tables::new(&classes[1..], pairs, own.languages.list()), Tables::new(classes, &pairs[1..], own.languages.list())];
+        for n in [LONGEST, LONGEST + 1] {
+            let case = |threshold| Case { text: vec![0x61; n], threshold, small: CRATES_SMALL, included: vec![] };
+            self.accepted_ranking(&case(None), own);
+            self.accepted_ranking(&case(Some(f32::NAN)), own);
+            self.ranked(&case(None), own, 4 * n - 1, own.records());
+            bad.iter().for_each(|tables| self.accepted_ranking(&case(None), tables));
+        }
+    }
+
     // Included numbers with or without a cause of refusal in them.
     fn included_or_not(&mut self, bad: bool, numbers: &[u32]) -> Vec<u32> {
         let mut included = texts::included(&mut self.random, numbers);
@@ -509,7 +521,7 @@ impl Run {
             let n = self.random.below(50);
             let text = letters.text(&mut self.random, &alphabets, n);
             let threshold = texts::threshold(&mut self.random);
-            let case = Case { text, threshold, small: self.random.below(4) as u32, included: vec![] };
+            let case = Case { text, threshold, small: CRATES_SMALL, included: vec![] };
             self.accepted_ranking(&case, &tables);
         }
     }
@@ -545,6 +557,7 @@ impl Run {
         self.during("rankings at limits", |run| run.aimed_rankings(run.times(3_000, 60_000)));
         self.during("rankings at the sufficient score", |run| run.sufficient_scores(run.times(400, 10_000)));
         self.during("causes of coherence", |run| run.causes_of_coherence(run.times(4, 80), classes, pairs, &own));
+        self.during("rankings of the longest text", |run| run.longest_rankings(classes, pairs, real));
         self.during("rankings with the crate's tables", |run| {
             run.crates_tables(run.times(1_200, 24_000), real, letters, alphabet, alphabets)
         });

@@ -74,7 +74,7 @@ impl Run {
         }
     }
 
-    // The threshold that the default call takes, f32 0.2: sums of just that, and of the fractions next to it.
+    // The threshold that the default call takes, f32 0.2: sums of just that, of the floats next to it, and of the fractions next to it.
     pub fn aimed_default(&mut self, times: usize, lent: &Lent) {
         for at in 0..times {
             // k doubled accents over n letters and no other ratio: 2k/n
@@ -82,8 +82,26 @@ impl Run {
             let mut text: Vec<u32> = (0..k).flat_map(|_| [0x6F, 0xE9, 0xE8]).collect();
             text.resize(n, 0x6F);
             text.resize(31 + self.random.below(2), 0x20);
-            self.accepted(&text, None, lent);
-            self.accepted(&text, Some(0.2f32.next_up()), lent);
+            self.beside_the_default(&text, lent);
+        }
+        // of 160 characters 2 unprintable, one doubled accent over 32 Latin letters, three pairs of case changes: 1/10 + 1/16 + 3/80 is a fifth, and
+        // comes to the float before 0.2; of 96 and 1 unprintable, one over 60 letters, four pairs: the float behind it
+        for (n, unprintable, letters, changes) in [(160, 2, 32, 3), (96, 1, 60, 4)] {
+            let mut end = vec![0x20];
+            end.extend((0..2 * changes + 1).map(|i| if i % 2 == 0 { 0x430 } else { 0x410 }));
+            end.extend(vec![0x01; unprintable]);
+            let mut text = vec![0x20; n - 1 - letters - end.len()];
+            text.extend(vec![0x6F; letters - 2]);
+            text.extend([0xE9, 0xE8]);
+            text.extend(end);
+            self.beside_the_default(&text, lent);
+        }
+    }
+
+    fn beside_the_default(&mut self, text: &[u32], lent: &Lent) {
+        self.accepted(text, None, lent);
+        for threshold in [0.2f32.next_down(), 0.2, 0.2f32.next_up()] {
+            self.accepted(text, Some(threshold), lent);
         }
     }
 
@@ -161,6 +179,44 @@ impl Run {
         }
     }
 
+    // Class tables of a few good records, one of them with a flag or two, an edge or another field changed.
+    pub fn nearly_good(&mut self, times: usize) {
+        for _ in 0..times {
+            let mut records = tables::random_records(&mut self.random, 4);
+            let at = self.random.below(records.len());
+            let (edge, before) = (*self.random.pick(&EDGES), at.checked_sub(1).map_or(BUILTIN_END, |before| records[before].last));
+            let record = &mut records[at];
+            match self.random.below(8) {
+                0..=3 => (0..1 + self.random.below(2)).for_each(|_| record.flags ^= 1 << self.random.below(FLAG_BITS as usize)),
+                4 => record.first = before + self.random.below(3) as u32 - 1,
+                5 => record.last = *self.random.pick(&[edge, record.first, record.first - 1]),
+                6 => (record.first, record.last) = (edge.min(0x110000), edge.saturating_add(self.random.below(3) as u32).min(0x110000)),
+                _ => (record.base, record.lower) = (edge, 0),
+            }
+            self.checked(&tables::bytes(&records));
+        }
+    }
+
+    // Every first byte with every bound of the bytes behind it and one off on both sides, between other characters and at the end.
+    pub fn aimed_bytes(&mut self) {
+        let second: [&[u8]; 12] = [&[], &[0x00], &[0x7F], &[0x80], &[0x8F], &[0x90], &[0x91], &[0x9E], &[0x9F], &[0xA0], &[0xBF], &[0xC0]];
+        let third: [&[u8]; 5] = [&[], &[0x7F], &[0x80], &[0xBF], &[0xC0]];
+        for (lead, second) in (0..=u8::MAX).flat_map(|lead| second.map(|second| (lead, second))) {
+            for (third, fourth) in third.iter().flat_map(|third| third_and_fourth(third)) {
+                let bytes = [&[lead], second, third, fourth].concat();
+                self.read(&bytes, 4);
+                self.read(&[b"a", &bytes[..], b"b"].concat(), 5);
+            }
+        }
+        // a byte order mark is a character as any other
+        for bytes in ["\u{FEFF}", "\u{FEFF}a", "a\u{FEFF}"] {
+            self.read(bytes.as_bytes(), 2);
+        }
+        for (bytes, room) in [(&b"\xFF"[..], 0), (b"", 0), (b"a", 0), (b"a", 1), ("é".as_bytes(), 1)] {
+            self.read(bytes, room);
+        }
+    }
+
     // The longest text and one more, each with every other cause of scoring behind it.
     pub fn aimed_lengths(&mut self, classes: &[u8], pairs: &[u8]) {
         for n in [LONGEST_TEXT, LONGEST_TEXT + 1] {
@@ -172,6 +228,12 @@ impl Run {
             self.scored(&[&text[1..], &[0xD800]].concat(), None, classes, pairs);
         }
     }
+}
+
+// A third byte with each fourth.
+fn third_and_fourth(third: &'static [u8]) -> [(&'static [u8], &'static [u8]); 5] {
+    let fourth: [&[u8]; 5] = [&[], &[0x7F], &[0x80], &[0xBF], &[0xC0]];
+    fourth.map(|fourth| (third, fourth))
 }
 
 fn lend(records: &[Record], pairs: &[u8]) {

@@ -1,5 +1,8 @@
 // The proved library, called by the C ABI, with every lent slice between canaries or against a wall (walls.rs).
-pub use crate::walls::Guarded;
+#[path = "walls.rs"]
+pub mod walls;
+
+pub use walls::Guarded;
 
 #[repr(C)]
 #[derive(Clone, Copy, Debug, Default, PartialEq)]
@@ -63,6 +66,15 @@ pub struct HostChosen {
     pub length: u32,
     pub number: u32,
     pub place: u32,
+}
+
+#[repr(C)]
+#[derive(Clone, Copy, Debug, Default, PartialEq)]
+pub struct HostRing {
+    pub number: u32,
+    pub place: u32,
+    pub head: u32,
+    pub count: u32,
 }
 
 // A struct of more than 16 bytes comes back through the first pointer, which is also returned.
@@ -138,6 +150,19 @@ unsafe extern "C" {
         pairs: *const u8,
         pairs_n: usize,
     ) -> HostChosen;
+    fn drasumira_ring_open(ring: *const u8, n: usize) -> HostRing;
+    fn drasumira_ring_put(
+        ring: *mut u8,
+        n: usize,
+        head: u32,
+        count: u32,
+        line: u64,
+        bits: u32,
+        fed: u32,
+        stopped: u32,
+        refusal: u32,
+    ) -> HostRing;
+    fn drasumira_ring_flush(ring: *const u8, n: usize, head: u32, count: u32, most: u32, out: *mut u8, room: usize) -> HostRing;
 }
 
 pub const BYTE: u8 = 0xA5;
@@ -217,4 +242,18 @@ pub fn verdict(first: &[u32], second: &[u32], lent: &Lent) -> HostVerdict {
 pub fn choose(first: &[u32], second: &[u32], lent: &Lent) -> HostChosen {
     let (c, p) = (lent.classes.list(), lent.pairs.list());
     unsafe { drasumira_choose(first.as_ptr(), first.len(), second.as_ptr(), second.len(), c.as_ptr(), c.len(), p.as_ptr(), p.len()) }
+}
+
+pub fn ring_open(ring: &[u8]) -> HostRing {
+    unsafe { drasumira_ring_open(ring.as_ptr(), ring.len()) }
+}
+
+// Bits, fed, stopped and refusal behind the line's number.
+pub fn ring_put(ring: &mut [u8], head: u32, count: u32, line: u64, words: [u32; 4]) -> HostRing {
+    let [bits, fed, stopped, refusal] = words;
+    unsafe { drasumira_ring_put(ring.as_mut_ptr(), ring.len(), head, count, line, bits, fed, stopped, refusal) }
+}
+
+pub fn ring_flush(ring: &[u8], head: u32, count: u32, most: u32, out: &mut [u8]) -> HostRing {
+    unsafe { drasumira_ring_flush(ring.as_ptr(), ring.len(), head, count, most, out.as_mut_ptr(), out.len()) }
 }

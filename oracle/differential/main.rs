@@ -1,7 +1,8 @@
-// oracle/differential/run quick|full [SEED [scoring|coherence]]: the oracle and the proved library in one process, on the same texts, thresholds and tables.
+// oracle/differential/run quick|full [SEED [PART]]: the oracle and the proved library in one process, on the same texts, thresholds and tables.
 // Compared: every bit of every ratio and of the sum, fed, stopped, number, place, and every lent byte. Where 01 refuses, what is expected
 // comes from causes.rs, since the oracle refuses nothing. The first difference is printed as the smallest text found, with both answers,
-// and ends the run with status 1. `survey` is for wrong programs: it tells the first two phases that find a difference.
+// and ends the run with status 1. A survey is for wrong programs (oracle/differential/mutants): it tells the
+// first phase, or the first two, to find a difference.
 mod aimed;
 mod causes;
 mod coherence;
@@ -9,12 +10,12 @@ mod edges;
 mod library;
 mod lines;
 mod random;
+mod ring;
 mod tables;
 mod texts;
-mod walls;
 
 use aimed::{AIMS, Shelves};
-use library::{Guarded, HostChosen, HostScore, HostVerdict, Lent, text_of};
+use library::{Guarded, HostChosen, HostScore, HostVerdict, Lent, text_of, walls};
 use oracle::open::LENT;
 use random::Random;
 use std::panic::{AssertUnwindSafe, catch_unwind, resume_unwind};
@@ -31,8 +32,16 @@ const PROGRESS_EVERY: u64 = 1_000_000;
 // Lengths beside those at which the library takes a larger room for the text of bytes.
 const ROOMS: [usize; 8] = [255, 256, 257, 258, 4095, 4096, 4097, 5000];
 
-// A surrogate, a number past the last code point, an overlong form of two kinds.
-const ILL_FORMED: [[u8; 4]; 4] = [[0xED, 0xA0, 0x80, 0x80], [0xF4, 0x90, 0x80, 0x80], [0xC0, 0xAF, 0xE0, 0x80], [0xF0, 0x8F, 0xBF, 0xBF]];
+// A surrogate, a number past the last code point, overlong forms, and a byte that leads nothing.
+const ILL_FORMED: [[u8; 4]; 7] = [
+    [0xED, 0xA0, 0x80, 0x80],
+    [0xF4, 0x90, 0x80, 0x80],
+    [0xC0, 0xAF, 0xE0, 0x80],
+    [0xF0, 0x8F, 0xBF, 0xBF],
+    [0xC1, 0xBF, 0xC1, 0x80],
+    [0xE0, 0x9F, 0xBF, 0x20],
+    [0xF5, 0x80, 0x80, 0x80],
+];
 
 struct Run {
     seed: u64,
@@ -40,12 +49,14 @@ struct Run {
     cases: u64,
     refused: u64,
     stopped: u64,
+    met: [u64; 8], // the accepted texts of which a ratio is not 0, by ratio
     coherence: coherence::Tally,
     random: Random,
+    part: &'static str,
     phase: &'static str,
-    began: u64,   // the cases before the phase
-    survey: bool, // whether a difference ends its phase only
-    found: usize, // the phases that one was found in
+    began: u64,    // the cases before the phase
+    survey: usize, // how many phases are to find a difference; 0: the first one ends the run
+    found: usize,  // how many did
 }
 
 // What a survey throws.
@@ -106,20 +117,21 @@ impl Run {
         self.random = Random::new(name.bytes().fold(self.seed, |sum, byte| sum.wrapping_mul(0x100_0000_01B3) ^ byte as u64));
         (self.phase, self.began) = (name, before);
         LENT.with_borrow_mut(|lent| *lent = oracle::open::Lent::default());
-        match self.survey {
-            false => work(self),
-            true => self.surveyed(work),
+        if self.survey == 0 {
+            work(self)
+        } else {
+            self.surveyed(work)
         }
-        eprintln!("{name}: {} cases, {:.1} s", self.cases - before, began.elapsed().as_secs_f32());
+        eprintln!("{}, {name}: {} cases, {:.1} s", self.part, self.cases - before, began.elapsed().as_secs_f32());
     }
 
-    // A phase of a survey: a difference ends it, and is told by phase and case; once two phases found one the survey ends.
+    // A phase of a survey: a difference ends it, and is told by phase and case; once so many phases found one the survey ends.
     fn surveyed(&mut self, work: impl FnOnce(&mut Run)) {
         let Err(thrown) = catch_unwind(AssertUnwindSafe(|| work(self))) else { return };
         let what = if thrown.is::<Difference>() { "found" } else { "panicked" };
         println!("{what}: {}: {}", self.phase, self.cases - self.began);
         self.found += 1;
-        if self.found == 2 {
+        if self.found == self.survey {
             std::process::exit(1);
         }
     }
@@ -134,7 +146,7 @@ impl Run {
 
     // What is told of a difference is worked out only where it is printed.
     fn fail(&self, what: impl FnOnce() -> String) -> ! {
-        if self.survey {
+        if self.survey > 0 {
             resume_unwind(Box::new(Difference));
         }
         println!("DIFFERENCE in {}, case {}, seed {}: {}", self.phase, self.cases - self.began, self.seed, what());
@@ -160,6 +172,7 @@ impl Run {
         let given = text_of(text);
         let (told, expected) = (library::score(given.list(), threshold, lent), oracle_score(text, threshold));
         self.stopped += expected.stopped as u64;
+        self.met.iter_mut().zip(expected.ratios).for_each(|(met, ratio)| *met += (ratio != 0.0) as u64);
         if told != expected {
             self.fail(|| {
                 let small = smallest(text, |t| library::score(t, threshold, lent) != oracle_score(t, threshold));
@@ -514,10 +527,9 @@ impl Run {
         }
     }
 
-    // All of scoring, reading and choosing: what is aimed first, what is drawn or counted out after it.
+    // Scores of texts: what is aimed first, what is drawn or counted out after it.
     fn scoring(&mut self, classes: &[u8], pairs: &[u8], languages: &[u8]) {
-        let (classes, pairs) = (&classes, &pairs);
-        let records = tables::records(classes);
+        let (records, classes) = (tables::records(classes), &classes);
         let (alphabet, shelves) = (&Alphabet::new(&records), &Shelves::new(&records, pairs));
         let kept: Vec<Record> =
             records.iter().filter(|r| r.last >= BUILTIN_END && alphabet.representatives.contains(&r.first)).copied().collect();
@@ -527,20 +539,11 @@ impl Run {
         self.during("cut-offs and limits, lent tables", |run| run.aimed_lent(run.times(200, 4_000)));
         self.during("periods", |run| run.aimed_periods(run.times(30, 600), shelves, real));
         self.during("the default threshold", |run| run.aimed_default(run.times(70, 700), real));
-        self.during("edges of class tables", |run| run.aimed_tables(run.times(2_000, 40_000), pairs));
-        self.during("longest texts with each cause", |run| run.aimed_lengths(classes, pairs));
         self.during("texts in real languages", |run| run.in_languages(run.times(600, 10_000), &records, languages, real));
-        self.during("causes of scoring", |run| run.causes_of_scoring(run.times(20, 400), classes, pairs));
-        self.during("reading", |run| run.reading(alphabet, run.times(40_000, 1_000_000)));
-        self.during("verdicts", |run| run.verdicts(alphabet, shelves, run.times(1_000, 10_000), classes, pairs));
         self.during("lengths", |run| run.lengths(alphabet, run.times(40, 500), real));
         self.during("longest texts", |run| run.longest(alphabet, run.times(3, 20), classes, pairs));
         self.during("thresholds at a checkpoint", |run| run.at_a_checkpoint(alphabet, run.times(1_000, 20_000), real));
         self.during("lent tables", |run| run.lent_tables(run.times(60, 1_000), 60));
-        self.during("bytes scored in one call", |run| run.bytes_scored(alphabet, run.times(2_000, 30_000), classes, pairs));
-        self.during("many lines in one call", |run| run.bursts(alphabet, run.times(1_000, 20_000), classes, pairs));
-        self.during("causes of many lines", |run| run.causes_of_bursts(run.times(2, 20), classes, pairs));
-        self.during("the Rust package's lines and choices", |run| run.package(alphabet, run.times(500, 10_000), classes, pairs));
         self.during("texts of every script", |run| run.random_texts(alphabet, run.times(10_000, 100_000), real));
         self.during("short texts, all tables", |run| run.short_texts(&alphabet.representatives, run.times(2, 3) as u32, real));
         self.during("short texts, their own records", |run| {
@@ -549,6 +552,30 @@ impl Run {
                 run.fail(|| "a lent table was changed".into());
             }
         });
+        eprintln!("texts with a ratio that is not 0, by ratio: {:?}", self.met);
+        if self.survey == 0 && self.met.contains(&0) {
+            self.fail(|| "a ratio was 0 throughout".into());
+        }
+    }
+
+    // Bytes, class tables, causes of refusal, verdicts, many lines, rings, and the Rust package's own part.
+    fn reading_and_choosing(&mut self, classes: &[u8], pairs: &[u8]) {
+        let records = tables::records(classes);
+        let (alphabet, shelves) = (&Alphabet::new(&records), &Shelves::new(&records, pairs));
+        self.during("edges of class tables", |run| run.aimed_tables(run.times(2_000, 40_000), pairs));
+        self.during("class tables beside a good one", |run| run.nearly_good(run.times(20_000, 400_000)));
+        self.during("bytes at each bound", |run| run.aimed_bytes());
+        self.during("longest texts with each cause", |run| run.aimed_lengths(classes, pairs));
+        self.during("causes of scoring", |run| run.causes_of_scoring(run.times(20, 400), classes, pairs));
+        self.during("reading", |run| run.reading(alphabet, run.times(40_000, 1_000_000)));
+        self.during("bytes scored in one call", |run| run.bytes_scored(alphabet, run.times(2_000, 30_000), classes, pairs));
+        self.during("verdicts", |run| run.verdicts(alphabet, shelves, run.times(1_000, 10_000), classes, pairs));
+        self.during("the Rust package's lines and choices", |run| run.package(alphabet, run.times(500, 10_000), classes, pairs));
+        self.during("causes of many lines", |run| run.causes_of_bursts(run.times(2, 20), classes, pairs));
+        self.during("many lines in one call", |run| run.bursts(alphabet, run.times(1_000, 20_000), classes, pairs));
+        self.during("edges of rings", |run| run.ring_edges());
+        self.during("rings", |run| run.rings(run.times(1_500, 30_000)));
+        self.during("the Rust package's rings", |run| run.package_rings(run.times(500, 10_000)));
     }
 }
 
@@ -556,29 +583,45 @@ fn main() {
     let words: Vec<String> = std::env::args().skip(1).collect();
     let number = |seed: &str| seed.parse().expect("a seed is a whole number");
     let (full, survey, dir, seed, part) = match words.iter().map(String::as_str).collect::<Vec<_>>()[..] {
-        [how @ ("quick" | "full" | "survey"), dir, ref more @ ..] if more.len() < 3 => {
-            (how == "full", how == "survey", dir, more.first().map_or(SEED, |seed| number(seed)), more.get(1).copied())
+        [how @ ("quick" | "full" | "survey-once" | "survey-twice"), dir, ref more @ ..] if more.len() < 3 => {
+            let survey = ["survey-once", "survey-twice"].iter().position(|word| *word == how).map_or(0, |at| at + 1);
+            (how == "full", survey, dir, more.first().map_or(SEED, |seed| number(seed)), more.get(1).copied())
         }
         _ => {
-            eprintln!("usage: differential quick|full|survey TABLES [SEED [scoring|coherence]]");
+            eprintln!("usage: differential quick|full|survey-once|survey-twice TABLES [SEED [scoring|reading|coherence]]");
             std::process::exit(2)
         }
     };
     let table = |name: &str| std::fs::read(format!("{dir}/{name}.bin")).unwrap_or_else(|e| panic!("{dir}/{name}.bin: {e}"));
     let (classes, pairs, languages) = (table("classes"), table("pairs"), table("languages"));
     let coherence = coherence::Tally::default();
-    let mut run =
-        Run { seed, full, cases: 0, refused: 0, stopped: 0, coherence, random: Random::new(seed), phase: "", began: 0, survey, found: 0 };
+    let mut run = Run {
+        seed,
+        full,
+        cases: 0,
+        refused: 0,
+        stopped: 0,
+        met: [0; 8],
+        coherence,
+        random: Random::new(seed),
+        part: "",
+        phase: "",
+        began: 0,
+        survey,
+        found: 0,
+    };
     let started = Instant::now();
     walls::watch();
     eprintln!("seed {seed}, over {}", env!("LIBRARY"));
-    if part != Some("coherence") {
-        run.scoring(&classes, &pairs, &languages);
+    for name in ["scoring", "reading", "coherence"].into_iter().filter(|name| part.is_none_or(|part| part == *name)) {
+        run.part = name;
+        match name {
+            "scoring" => run.scoring(&classes, &pairs, &languages),
+            "reading" => run.reading_and_choosing(&classes, &pairs),
+            _ => run.coherence(&classes, &pairs, &languages),
+        }
     }
-    if part != Some("scoring") {
-        run.coherence(&classes, &pairs, &languages);
-    }
-    if survey {
+    if survey > 0 {
         println!("survey: {} cases, found in {} phases", run.cases, run.found);
         std::process::exit((run.found > 0) as i32);
     }

@@ -29,11 +29,13 @@ mod chooser;
 mod coherence;
 mod host;
 mod refusal;
+mod ring;
 mod text;
 
 pub use chooser::{RefusedText, Which, choose, verdict};
 pub use coherence::{CoherenceMatch, Languages, TOO_SMALL_SEQUENCE, coherence, language_name};
 pub use refusal::Refusal;
+pub use ring::{MOST_RECORDS, RECORD, Record, Ring};
 pub use text::{Part, Text};
 
 /// A class table and a pair table. The class table is checked when this is made.

@@ -36,6 +36,10 @@ impl Refusal {
     pub const BAD_LANGUAGES: u32 = 8;
     /// Over 64 included numbers, place 0, or one that is not in the table, place its index.
     pub const BAD_INCLUDED: u32 = 9;
+    /// A ring that is not 1 to 2,048 records of 32 bytes, or whose head is not below its size or its count above it.
+    pub const BAD_RING: u32 = 15;
+    /// A ring that holds as many records as it has slots.
+    pub const RING_FULL: u32 = 16;
 
     /// A refusal of this number and place.
     pub const fn new(number: u32, place: u32) -> Refusal {
@@ -65,6 +69,8 @@ impl fmt::Display for Refusal {
                 write!(f, "over 64 numbers are included, or the one at index 0 is in no record of the language table")
             }
             Refusal::BAD_INCLUDED => write!(f, "the included number at index {place} is in no record of the language table"),
+            Refusal::BAD_RING => write!(f, "the ring is not 1 to 2,048 records of 32 bytes, or its head or its count is past its size"),
+            Refusal::RING_FULL => write!(f, "the ring is full"),
             _ => write!(f, "place {place}"),
         }
     }

@@ -9,7 +9,10 @@ use Rattle.md.specs.declared.Scored.{Scored}
 use Rattle.md.specs.Values.{Values as ScoreValues, values as scoreValues}
 use Rattle.md_chooser.specs.declared.Judged.{Judged}
 use Rattle.md_chooser.specs.Choose.{values as verdictValues}
+use Rattle.ring.specs.declared.Ringed.{Ringed}
+use Rattle.ring.specs.Calls.{values as ringValues}
 use Rattle.host.specs.declared.HostRead.{HostRead}
+use Rattle.host.specs.declared.HostRing.{HostRing}
 use Rattle.host.specs.declared.HostScore.{HostScore}
 use Rattle.host.specs.declared.HostVerdict.{HostVerdict}
 
@@ -37,4 +40,13 @@ hostVerdict a =
       refused = verdictValues a .refused;
       number = verdictValues a .number;
       place = verdictValues a .place;
+    }
+
+unfoldable pub hostRing : Ringed → HostRing
+hostRing a =
+    record {
+      number = ringValues a .number;
+      place = ringValues a .place;
+      head = ringValues a .head;
+      count = ringValues a .count;
     }

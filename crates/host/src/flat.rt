@@ -1,9 +1,10 @@
 // The flat form of each answer: no enum crosses to a host.
 ghost use mathlib.Core.Path.{_≡_};
 ghost use Rattle.host.specs.Chosen.{hostChosen};
-ghost use Rattle.host.specs.Host.{hostCounted, hostScore, hostVerdict};
+ghost use Rattle.host.specs.Host.{hostCounted, hostScore, hostVerdict, hostRing};
 use crate::HostChosen;
 use crate::HostRead;
+use crate::HostRing;
 use crate::HostScore;
 use crate::HostVerdict;
 use base::Counted;
@@ -13,6 +14,7 @@ use md::Scored;
 use md_chooser::Judged;
 use md_chooser::Part;
 use ratio::rounding::no_ratios;
+use ring::Ringed;
 
 pub fn flat_counted(counted: Counted) -> HostRead
     ensures { λ r. ⌜ r ≡ hostCounted counted ⌝ }
@@ -98,5 +100,24 @@ pub fn flat_chosen(part: Part) -> HostChosen
         length: part.length,
         number: verdict.number,
         place: verdict.place,
+    }
+}
+
+pub fn flat_ringed(ringed: Ringed) -> HostRing
+    ensures { λ r. ⌜ r ≡ hostRing ringed ⌝ }
+{
+    match ringed {
+        Ringed::Refused(r) => HostRing {
+            number: r.number,
+            place: r.place,
+            head: 0,
+            count: 0,
+        },
+        Ringed::Kept(kept) => HostRing {
+            number: ACCEPTED,
+            place: 0,
+            head: kept.head,
+            count: kept.count,
+        },
     }
 }

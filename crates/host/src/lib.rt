@@ -11,16 +11,19 @@ ghost use Rattle.md_lines.specs.Burst as bursts;
 ghost use Rattle.md_chooser.specs.Choose.{chosen, verdictOf};
 ghost use Rattle.cd.specs.Causes.{causes, causesDefault};
 ghost use Rattle.cd.specs.Coherence.{DEFAULT-THRESHOLD, matchesOf, workAfter};
+ghost use Rattle.ring.specs.Calls as rings;
 ghost use Rattle.host.specs.Chosen.{hostChosen};
-ghost use Rattle.host.specs.Host.{hostCounted, hostScore, hostVerdict};
+ghost use Rattle.host.specs.Host.{hostCounted, hostScore, hostVerdict, hostRing};
 ghost use Rattle.host.specs.Matches.{hostRanking};
 use cd_list::HostRanking;
 use cd_ranking::CoherenceMatch;
 use flat::flat_chosen;
 use flat::flat_counted;
 use flat::flat_judged;
+use flat::flat_ringed;
 use flat::flat_scored;
 use ratio::Ratios;
+use ring::Verdict;
 
 mod flat;
 
@@ -51,6 +54,15 @@ pub struct HostVerdict {
     pub refused: u32,
     pub number: u32,
     pub place: u32,
+}
+
+// The answer of a call over a ring: a refusal's number and place, or zeros and what to keep, head and count.
+#[repr(C)]
+pub struct HostRing {
+    pub number: u32,
+    pub place: u32,
+    pub head: u32,
+    pub count: u32,
 }
 
 // Whether a class table is good: the number of its records, or refusal 5 and its place.
@@ -226,4 +238,52 @@ pub extern "C" fn drasumira_coherence_default(
         work,
         matches,
     )
+}
+
+// A ring with nothing in it.
+#[no_mangle]
+pub extern "C" fn drasumira_ring_open(ring: &[u8]) -> HostRing
+    ensures { λ r. ⌜ r ≡ hostRing (rings.openAnswer (now (ring .entry))) ⌝ }
+{
+    flat_ringed(ring::open_ring(ring))
+}
+
+// Puts a record behind the newest one: the numbers as they are given.
+#[no_mangle]
+pub extern "C" fn drasumira_ring_put(
+    ring: &mut [u8],
+    head: u32,
+    count: u32,
+    line: u64,
+    bits: u32,
+    fed: u32,
+    stopped: u32,
+    refusal: u32,
+) -> HostRing
+    ensures { λ r. ⌜ r ≡ hostRing (rings.putAnswer (now (ring .entry)) head count) ⌝ }
+    ensures { λ _. ⌜ now (ring .exit) ≡ rings.ringAfter (now (ring .entry)) head count (record { line = line; bits = bits; fed = fed; stopped = stopped; refusal = refusal }) ⌝ }
+{
+    let verdict = Verdict {
+        line,
+        bits,
+        fed,
+        stopped,
+        refusal,
+    };
+    flat_ringed(ring::put_record(ring, head, count, verdict))
+}
+
+// Writes the oldest records, up to `most` of them, to the front of out. As many came out as the count fell by.
+#[no_mangle]
+pub extern "C" fn drasumira_ring_flush(
+    ring: &[u8],
+    head: u32,
+    count: u32,
+    most: u32,
+    out: &mut [u8],
+) -> HostRing
+    ensures { λ r. ⌜ r ≡ hostRing (rings.flushAnswer (now (ring .entry)) head count most (length (now (out .entry)))) ⌝ }
+    ensures { λ _. ⌜ now (out .exit) ≡ rings.outAfter (now (ring .entry)) head count most (now (out .entry)) ⌝ }
+{
+    flat_ringed(ring::flush_records(ring, head, count, most, out))
 }

@@ -41,8 +41,9 @@ fn classes(ranges: &[u16]) -> Vec<tables::Record> {
         put(43, 1, CHAR_ALPHABETIC, range, next + 2);
         put(44, 1, ALPHABETIC, range, 0);
         put(45, 1, CHAR_ALPHABETIC, 0, 0);
-        put(46, 1, CHAR_ALPHABETIC, range, UNKNOWN);
+        put(46, 1, CHAR_ALPHABETIC, range, UNKNOWN); // whose lower case has no class
         put(47, 1, ALPHABETIC, range, UNKNOWN);
+        put(48, 1, CHAR_ALPHABETIC, range, at + 43); // lowered to what would itself be lowered
     }
     all
 }
@@ -155,13 +156,13 @@ impl World {
         text.iter_mut().for_each(|letter| *letter = if mixed == 1 { written(r, *letter) } else { *letter });
         for _ in 0..r.below(6) {
             let k = r.below(BLOCKS as usize) as u32;
-            let other = *r.pick(&[0x20, 0x31, 0x61, 0x61, 0xE9, 0x130, block(k) + 44, block(k) + 45, block(k) + 47]);
+            let other = *r.pick(&[0x20, 0x31, 0x61, 0x61, 0xE9, 0x130, block(k) + 44, block(k) + 45, block(k) + 48]);
             let at = r.below(text.len() + 1);
             text.insert(at, other);
         }
         if r.below(60) == 0 {
             let at = r.below(text.len() + 1);
-            text.insert(at, *r.pick(&[block(0) + 46, block(0) + 48, 0x3FFF]));
+            text.insert(at, *r.pick(&[block(0) + 46, block(0) + 47, block(0) + 50, 0x3FFF]));
         }
         let unlike = r.below(2) == 0;
         let mut languages = vec![];

@@ -21,10 +21,15 @@ use Rattle.md_lines.specs.Burst.{numbers, rowNumbers}
 use Rattle.md_chooser.specs.declared.Judged.{Judged}
 use Rattle.md_chooser.specs.declared.Judged.the-variants.{First, Second, FirstRefused, SecondRefused}
 use Rattle.md_chooser.specs.Choose.{values as verdictValues}
+use Rattle.ring.specs.declared.Kept.{Kept}
+use Rattle.ring.specs.declared.Ringed.{Ringed}
+use Rattle.ring.specs.declared.Ringed.the-variants.{Kept as Keep, Refused as NotKept}
+use Rattle.ring.specs.Calls.{values as ringValues}
 use Rattle.host.specs.declared.HostRead.{HostRead}
+use Rattle.host.specs.declared.HostRing.{HostRing}
 use Rattle.host.specs.declared.HostScore.{HostScore}
 use Rattle.host.specs.declared.HostVerdict.{HostVerdict}
-use Rattle.host.specs.Host.{hostCounted, hostScore, hostVerdict, flatScore}
+use Rattle.host.specs.Host.{hostCounted, hostScore, hostVerdict, hostRing, flatScore}
 
 -- what a refusal becomes, and a count
 abbrev pub refusedRead : Refusal → HostRead
@@ -98,3 +103,18 @@ verdict-first-refused a r e = rw e
 pub verdict-second-refused : (a : Judged) (r : Refusal) → a ≡ SecondRefused r → told 0 2 (r .number) (r .place) ≡ hostVerdict a
 unfolding hostVerdict verdictValues
 verdict-second-refused a r e = rw e
+
+-- what is kept of a ring, and a refusal
+abbrev pub keptRing : Kept → HostRing
+keptRing k = record { number = ACCEPTED; place = 0; head = k .head; count = k .count }
+
+abbrev pub refusedRing : Refusal → HostRing
+refusedRing r = record { number = r .number; place = r .place; head = 0; count = 0 }
+
+pub ringed-kept : (a : Ringed) (k : Kept) → a ≡ Keep k → keptRing k ≡ hostRing a
+unfolding hostRing ringValues
+ringed-kept a k e = rw e
+
+pub ringed-refused : (a : Ringed) (r : Refusal) → a ≡ NotKept r → refusedRing r ≡ hostRing a
+unfolding hostRing ringValues
+ringed-refused a r e = rw e

@@ -14,7 +14,8 @@ returns c = sym (point-low _ _ (c .if1 .taken))
 
 returns-2 : tie.Need-returns-2
 returns-2 c =
-    c .wide .ensures .0 ∙ getD-any (c .before .before .before .before .args .page .now) (c .before .before .before .before .args .b - FIRST-HIGH) 0 UNUSED (omega arith) ∙ sym (point-high _ _ (c .before .before .if1 .left))
+    let asked = c .before .before .before .before in
+    c .wide .ensures .0 ∙ getD-any (asked .args .page .now) (asked .args .b - FIRST-HIGH) 0 UNUSED (omega arith) ∙ sym (point-high _ _ (c .before .before .if1 .left))
 
 pub point-of-spec : {M : Type 1} → statement M
 point-of-spec =

@@ -1,0 +1,13 @@
+-- The lowest byte of the number, and of what is left of it. Assumes nothing.
+use mathlib.Core.Path.{refl}
+use borrow.Author.Needs.{needs}
+use Rattle.ring.specs.Record.{leBytes}
+use Rattle.ring.proofs.record.bytes_of.Statement.{statement}
+use Rattle.ring.proofs.record.bytes_of.Tie as tie
+
+returns : tie.Need-returns
+unfolding leBytes
+returns c = refl
+
+pub bytes-of-spec : {M : Type 1} → statement M
+bytes-of-spec = tie.close (tie.spec (λ c. search needs) (λ c. search needs) (λ c. search needs) (λ c. search needs) returns)
