@@ -58,9 +58,9 @@ pub fn open_ring(ring: &[u8]) -> Ringed
     ensures { λ r. ⌜ r ≡ calls.openAnswer (now (ring .entry)) ⌝ }
 {
     if wrong_size(ring) {
-        return refused(BAD_RING);
+        return ring_refused(BAD_RING);
     }
-    keep(0, 0)
+    ring_kept(0, 0)
 }
 
 // Puts a record behind the newest one.
@@ -69,17 +69,17 @@ pub fn put_record(ring: &mut [u8], head: u32, count: u32, verdict: Verdict) -> R
     ensures { λ _. ⌜ now (ring .exit) ≡ calls.ringAfter (now (ring .entry)) head count verdict ⌝ }
 {
     if wrong_ring(ring, head, count) {
-        return refused(BAD_RING);
+        return ring_refused(BAD_RING);
     }
     let slots = ring.len() / RECORD;
     let unused = slots - count as usize;
     if unused == 0 {
-        return refused(RING_FULL);
+        return ring_refused(RING_FULL);
     }
     let record = record_of(verdict);
     let free = wrapped(head as usize + count as usize, slots);
     put_bytes(&record, ring, RECORD * free);
-    keep(head, count + 1)
+    ring_kept(head, count + 1)
 }
 
 // Writes the oldest records, up to `most` of them, to the front of out. Their slots are free from now on.
@@ -88,25 +88,25 @@ pub fn flush_records(ring: &[u8], head: u32, count: u32, most: u32, out: &mut [u
     ensures { λ _. ⌜ now (out .exit) ≡ calls.outAfter (now (ring .entry)) head count most (now (out .entry)) ⌝ }
 {
     if wrong_ring(ring, head, count) {
-        return refused(BAD_RING);
+        return ring_refused(BAD_RING);
     }
     let n = lesser(most, count);
     if out.len() < RECORD * n as usize {
-        return refused(NO_ROOM);
+        return ring_refused(NO_ROOM);
     }
     copy_records(ring, head as usize, n as usize, out);
     let slots = ring.len() / RECORD;
     let next = wrapped(head as usize + n as usize, slots);
-    keep(next as u32, count - n)
+    ring_kept(next as u32, count - n)
 }
 
-fn refused(number: u32) -> Ringed
+fn ring_refused(number: u32) -> Ringed
     ensures { λ r. ⌜ r ≡ calls.keptUnless (refusedAt number 0) 0 0 ⌝ }
 {
     Ringed::Refused(Refusal { number, place: 0 })
 }
 
-fn keep(head: u32, count: u32) -> Ringed
+fn ring_kept(head: u32, count: u32) -> Ringed
     ensures { λ r. ⌜ r ≡ calls.keptUnless Allowed head count ⌝ }
 {
     Ringed::Kept(Kept { head, count })

@@ -44,7 +44,7 @@ fn wide_bytes_of(v: u64) -> [u8; 8]
 }
 
 // Puts the bytes of a number into out from a place on.
-fn put_number(v: u32, out: &mut [u8], at: usize)
+fn put_word(v: u32, out: &mut [u8], at: usize)
     requires { ⌜ at + 4 ≤ length (now out) ⌝ }
     ensures { λ _. ⌜ now (out .exit) ≡ put (now (out .entry)) at (leBytes 4 v) ⌝ }
 {
@@ -59,9 +59,9 @@ pub fn record_of(v: Verdict) -> [u8; RECORD]
     let mut record = [0u8; RECORD];
     let line = wide_bytes_of(v.line);
     put_bytes(&line, &mut record, 0);
-    put_number(v.bits, &mut record, BITS_AT);
-    put_number(v.fed, &mut record, FED_AT);
-    put_number(v.stopped, &mut record, STOPPED_AT);
-    put_number(v.refusal, &mut record, REFUSAL_AT);
+    put_word(v.bits, &mut record, BITS_AT);
+    put_word(v.fed, &mut record, FED_AT);
+    put_word(v.stopped, &mut record, STOPPED_AT);
+    put_word(v.refusal, &mut record, REFUSAL_AT);
     record
 }

@@ -9,13 +9,13 @@ use Rattle.ring.proofs.flush_records.Statement.{statement}
 use Rattle.ring.proofs.flush_records.Tie as tie
 
 returns : tie.Need-returns
-returns c = rw (c .refused .ensures) (flush-bad _ _ _ _ _ (sym (c .before .before .wrong-ring .ensures) ∙ c .before .if1 .taken))
+returns c = rw (c .ring-refused .ensures) (flush-bad _ _ _ _ _ (sym (c .before .before .wrong-ring .ensures) ∙ c .before .if1 .taken))
 
 returns-2 : tie.Need-returns-2
 returns-2 c =
     let picked = c .before .before in
     let tested = picked .before in
-    rw (c .refused2 .ensures)
+    rw (c .ring-refused2 .ensures)
     (flush-room _ _ _ _ _ (sym (tested .before .wrong-ring .ensures) ∙ tested .if1 .left) (rw (picked .lesser .ensures) at (c .before .if2 .taken)))
 
 copy-records-requires : tie.Need-copy-records-requires
@@ -32,8 +32,8 @@ wrapped-requires c κs =
     let good = good-ring _ _ _ (sym (tested .before .wrong-ring .ensures) ∙ tested .if1 .left) in
     omega (arith, good .inside, good .held, picked .lesser .ensures)
 
-cast-keep : tie.Need-cast-keep
-cast-keep c =
+cast-ring-kept : tie.Need-cast-ring-kept
+cast-ring-kept c =
     let tested = c .before .before .before .before .before .before .before in
     let good = good-ring _ _ _ (sym (tested .before .wrong-ring .ensures) ∙ tested .if1 .left) in
     omega (arith, slot-small _ (good .size) _ (c .wrapped .ensures))
@@ -44,7 +44,7 @@ returns-3 c =
     let copied = wrapped .before .before .before in
     let picked = copied .before .before .before in
     let tested = picked .before in
-    rw (c .keep .ensures, wrapped .wrapped .ensures, copied .copy-records .ensures, picked .lesser .ensures)
+    rw (c .ring-kept .ensures, wrapped .wrapped .ensures, copied .copy-records .ensures, picked .lesser .ensures)
     (flush-kept _ _ _ _ _ (sym (tested .before .wrong-ring .ensures) ∙ tested .if1 .left)
     (rw (picked .lesser .ensures) at (copied .before .before .if2 .left)))
 
@@ -65,7 +65,7 @@ flush-records-spec =
     (λ c. search needs)
     (λ c. search needs)
     wrapped-requires
-    cast-keep
+    cast-ring-kept
     (λ c. search needs)
     (λ c κs. search needs)
     (λ c. search needs)

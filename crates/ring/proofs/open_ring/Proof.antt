@@ -6,10 +6,10 @@ use Rattle.ring.proofs.open_ring.Statement.{statement}
 use Rattle.ring.proofs.open_ring.Tie as tie
 
 returns : tie.Need-returns
-returns c = c .refused .ensures ∙ open-refused _ (sym (c .before .before .wrong-size .ensures) ∙ c .before .if1 .taken)
+returns c = c .ring-refused .ensures ∙ open-refused _ (sym (c .before .before .wrong-size .ensures) ∙ c .before .if1 .taken)
 
 returns-2 : tie.Need-returns-2
-returns-2 c = c .keep .ensures ∙ open-kept _ (sym (c .before .before .wrong-size .ensures) ∙ c .before .if1 .left)
+returns-2 c = c .ring-kept .ensures ∙ open-kept _ (sym (c .before .before .wrong-size .ensures) ∙ c .before .if1 .left)
 
 pub open-ring-spec : {M : Type 1} → statement M
 open-ring-spec =

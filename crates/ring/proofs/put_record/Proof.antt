@@ -10,7 +10,7 @@ use Rattle.ring.proofs.put_record.Statement.{statement}
 use Rattle.ring.proofs.put_record.Tie as tie
 
 returns : tie.Need-returns
-returns c = rw (c .refused .ensures) (put-bad _ _ _ _ (sym (c .before .before .wrong-ring .ensures) ∙ c .before .if1 .taken))
+returns c = rw (c .ring-refused .ensures) (put-bad _ _ _ _ (sym (c .before .before .wrong-ring .ensures) ∙ c .before .if1 .taken))
 
 sub-unused : tie.Need-sub-unused
 sub-unused c = good-ring _ _ _ (sym (c .before .wrong-ring .ensures) ∙ c .if1 .left) .held
@@ -19,7 +19,7 @@ returns-2 : tie.Need-returns-2
 returns-2 c =
     let tested = c .before .before in
     let fine = sym (tested .before .wrong-ring .ensures) ∙ tested .if1 .left in
-    rw (c .refused2 .ensures) (put-full _ _ _ fine _ (omega (arith, good-ring _ _ _ fine .held, c .before .if2 .taken)))
+    rw (c .ring-refused2 .ensures) (put-full _ _ _ fine _ (omega (arith, good-ring _ _ _ fine .held, c .before .if2 .taken)))
 
 wrapped-requires : tie.Need-wrapped-requires
 wrapped-requires c κs =
@@ -42,8 +42,8 @@ put-bytes-requires c κs =
     rw (made .record-of .ensures, record-length)
     (free-inside _ _ _ (good-ring _ _ _ (sym (tested .before .wrong-ring .ensures) ∙ tested .if1 .left)) _ (picked .wrapped .ensures))
 
-add-keep : tie.Need-add-keep
-add-keep c =
+add-ring-kept : tie.Need-add-ring-kept
+add-ring-kept c =
     let tested = c .before .before .before .before .before .before .before .before in
     let good = good-ring _ _ _ (sym (tested .before .wrong-ring .ensures) ∙ tested .if1 .left) in
     omega (arith, good .held, good .size .few)
@@ -55,7 +55,7 @@ returns-3 c =
     let made = picked .before in
     let tested = made .before .before in
     let room = made .before .if2 .left in
-    rw (c .keep .ensures, put .put-bytes .ensures, picked .wrapped .ensures, made .record-of .ensures)
+    rw (c .ring-kept .ensures, put .put-bytes .ensures, picked .wrapped .ensures, made .record-of .ensures)
     (put-kept _ _ _ (sym (tested .before .wrong-ring .ensures) ∙ tested .if1 .left) _ (λ e. room (omega (arith, e))))
 
 pub put-record-spec : {M : Type 1} → statement M
@@ -76,7 +76,7 @@ put-record-spec =
     (λ c. search needs)
     mul-put-bytes
     put-bytes-requires
-    add-keep
+    add-ring-kept
     (λ c κs. search needs)
     (λ c. search needs)
     returns-3)

@@ -12,10 +12,10 @@ returns c =
     let bits = fed .before .before .before in
     let line = bits .before .before .before in
     rw (
-      refusal .put-number4 .ensures,
-      stopped .put-number3 .ensures,
-      fed .put-number2 .ensures,
-      bits .put-number .ensures,
+      refusal .put-word4 .ensures,
+      stopped .put-word3 .ensures,
+      fed .put-word2 .ensures,
+      bits .put-word .ensures,
       line .put-bytes .ensures,
       line .before .before .before .wide-bytes-of .ensures,
     )

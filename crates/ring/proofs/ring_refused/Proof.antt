@@ -2,12 +2,12 @@
 use mathlib.Core.Path.{refl}
 use Rattle.base.specs.Causes.{refusedAt}
 use Rattle.ring.specs.Calls.{keptUnless}
-use Rattle.ring.proofs.refused.Statement.{statement}
-use Rattle.ring.proofs.refused.Tie as tie
+use Rattle.ring.proofs.ring_refused.Statement.{statement}
+use Rattle.ring.proofs.ring_refused.Tie as tie
 
 returns : tie.Need-returns
 unfolding keptUnless refusedAt
 returns c = refl
 
-pub refused-spec : {M : Type 1} → statement M
-refused-spec = tie.close (tie.spec returns)
+pub ring-refused-spec : {M : Type 1} → statement M
+ring-refused-spec = tie.close (tie.spec returns)

@@ -1,0 +1,12 @@
+-- The case in which nothing is refused. Assumes nothing.
+use mathlib.Core.Path.{refl}
+use Rattle.ring.specs.Calls.{keptUnless}
+use Rattle.ring.proofs.ring_kept.Statement.{statement}
+use Rattle.ring.proofs.ring_kept.Tie as tie
+
+returns : tie.Need-returns
+unfolding keptUnless
+returns c = refl
+
+pub ring-kept-spec : {M : Type 1} → statement M
+ring-kept-spec = tie.close (tie.spec returns)
