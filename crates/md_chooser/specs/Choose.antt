@@ -33,11 +33,11 @@ partOf (SecondRefused r) first second = []
 
 -- the text of which a part is handed back: the second where it is taken, and else the first ("an empty part of the first"). Of where the two
 -- texts lie it gives where the part lies
-unfoldable pub textOf : {A : Type 0} → Judged → A → A → A
-textOf First first second = first
-textOf Second first second = second
-textOf (FirstRefused r) first second = first
-textOf (SecondRefused r) first second = first
+unfoldable pub takenFrom : {A : Type 0} → Judged → A → A → A
+takenFrom First first second = first
+takenFrom Second first second = second
+takenFrom (FirstRefused r) first second = first
+takenFrom (SecondRefused r) first second = first
 
 -- the part handed back is the cut of the text that the verdict names, or empty
 unfoldable pub chosen : List ℕ → List ℕ → List ℕ → List ℕ → List ℕ

@@ -3,7 +3,7 @@ ghost use mathlib.Core.Path.{_≡_};
 ghost use lib.ListN.{length};
 ghost use Rattle.md_chooser.specs.Inner.Cut.{CutLength};
 ghost use Rattle.md_chooser.specs.Inner.Part.{PartLength};
-ghost use Rattle.md_chooser.specs.Choose.{chosen, textOf, verdictOf};
+ghost use Rattle.md_chooser.specs.Choose.{chosen, takenFrom, verdictOf};
 ghost use Rattle.md_chooser.specs.Choose.{judged as judgedBy};
 use base::Refusal;
 use base::limits::NEWLINE;
@@ -27,7 +27,7 @@ pub struct Part {
 // refused; `verdict` says which and why.
 pub fn choose<'a>(first: &'a [u32], second: &'a [u32], classes: &[u8], pairs: &[u8]) -> &'a [u32]
     ensures { λ r. ⌜ now r ≡ chosen (now (first .entry)) (now (second .entry)) (now (classes .entry)) (now (pairs .entry)) ⌝ }
-    ensures { λ r. ⌜ r .ptr ≡ textOf (verdictOf (now (first .entry)) (now (second .entry)) (now (classes .entry)) (now (pairs .entry))) (first .entry .ptr) (second .entry .ptr) ⌝ }
+    ensures { λ r. ⌜ r .ptr ≡ takenFrom (verdictOf (now (first .entry)) (now (second .entry)) (now (classes .entry)) (now (pairs .entry))) (first .entry .ptr) (second .entry .ptr) ⌝ }
 {
     let judged = verdict(first, second, classes, pairs);
     let n = part_length(judged, first, second);

@@ -19,7 +19,7 @@ use Rattle.md.proofs.Laws.Default.{whole-faultless}
 use Rattle.md_chooser.specs.declared.Judged.{Judged}
 use Rattle.md_chooser.specs.declared.Judged.the-variants.{First, Second, FirstRefused, SecondRefused}
 use Rattle.md_chooser.specs.Cut.{cut}
-use Rattle.md_chooser.specs.Choose.{judged, verdictOf, partOf, textOf, chosen}
+use Rattle.md_chooser.specs.Choose.{judged, verdictOf, partOf, takenFrom, chosen}
 use Rattle.md_chooser.specs.Inner.Cut.{CutLength}
 use Rattle.md_chooser.specs.Inner.Part.{PartLength}
 use Rattle.md_chooser.proofs.Laws.Cut.{cut-within}
@@ -44,33 +44,33 @@ else-first a b s t e f l = rw (e, f, l)
 -- how long the part is, by the verdict, and what its length tells
 module _ (v : Judged) (first second : List ℕ) where
   pub length-first : (n : ℕ) → v ≡ First → CutLength first n → PartLength v first second n
-  unfolding textOf partOf
+  unfolding takenFrom partOf
   length-first n e h = rw e (record { within = h .within; is = h .is })
 
   pub length-second : (n : ℕ) → v ≡ Second → CutLength second n → PartLength v first second n
-  unfolding textOf partOf
+  unfolding takenFrom partOf
   length-second n e h = rw e (record { within = h .within; is = h .is })
 
   pub length-refused : (r : Refusal) → v ≡ FirstRefused r → PartLength v first second 0
-  unfolding textOf partOf
+  unfolding takenFrom partOf
   length-refused r e = rw e (record { within = omega arith; is = refl })
 
   pub length-refused-second : (r : Refusal) → v ≡ SecondRefused r → PartLength v first second 0
-  unfolding textOf partOf
+  unfolding takenFrom partOf
   length-refused-second r e = rw e (record { within = omega arith; is = refl })
 
   module _ (n : ℕ) (h : PartLength v first second n) where
     pub first-length : v ≡ First → CutLength first n
-    unfolding textOf partOf
+    unfolding takenFrom partOf
     first-length e = record { within = rw e at (h .within); is = rw e at (h .is) }
 
     pub second-length : v ≡ Second → CutLength second n
-    unfolding textOf partOf
+    unfolding takenFrom partOf
     second-length e = record { within = rw e at (h .within); is = rw e at (h .is) }
 
     -- no more is handed back than the part has
     pub part-length : n ≡ length (partOf v first second)
-    part-length = sym (length-take-le n (textOf v first second) (h .within)) ∙ ap length (h .is)
+    part-length = sym (length-take-le n (takenFrom v first second) (h .within)) ∙ ap length (h .is)
 
 -- of texts that are short where they are scored, the part handed back is short
 module _ (first second : List ℕ) where
@@ -104,20 +104,20 @@ module _ (first second classes pairs : List ℕ) (v : Judged) (f : v ≡ verdict
 
   -- the text of which a part is handed back
   module _ {A : Type 0} (a b : A) where
-    pub from-first : v ≡ First → a ≡ textOf (verdictOf first second classes pairs) a b
-    unfolding textOf
+    pub from-first : v ≡ First → a ≡ takenFrom (verdictOf first second classes pairs) a b
+    unfolding takenFrom
     from-first e = rw (sym f ∙ e)
 
-    pub from-second : v ≡ Second → b ≡ textOf (verdictOf first second classes pairs) a b
-    unfolding textOf
+    pub from-second : v ≡ Second → b ≡ takenFrom (verdictOf first second classes pairs) a b
+    unfolding takenFrom
     from-second e = rw (sym f ∙ e)
 
-    pub from-refused : (r : Refusal) → v ≡ FirstRefused r → a ≡ textOf (verdictOf first second classes pairs) a b
-    unfolding textOf
+    pub from-refused : (r : Refusal) → v ≡ FirstRefused r → a ≡ takenFrom (verdictOf first second classes pairs) a b
+    unfolding takenFrom
     from-refused r e = rw (sym f ∙ e)
 
-    pub from-refused-second : (r : Refusal) → v ≡ SecondRefused r → a ≡ textOf (verdictOf first second classes pairs) a b
-    unfolding textOf
+    pub from-refused-second : (r : Refusal) → v ≡ SecondRefused r → a ≡ takenFrom (verdictOf first second classes pairs) a b
+    unfolding takenFrom
     from-refused-second r e = rw (sym f ∙ e)
 
   scored-short : (text : List ℕ) (s : Score) → wholeScore text classes pairs ≡ Told s → length text ≤ LONGEST-TEXT

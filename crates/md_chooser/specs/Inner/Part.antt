@@ -5,9 +5,9 @@ use mathlib.Core.Path.{_≡_}
 use mathlib.Core.List.{List}
 use lib.ListN.{length, take}
 use Rattle.md_chooser.specs.declared.Judged.{Judged}
-use Rattle.md_chooser.specs.Choose.{partOf, textOf}
+use Rattle.md_chooser.specs.Choose.{partOf, takenFrom}
 
 -- n code points of the text that the verdict names are what is handed back
 pub record PartLength (judged : Judged) (first second : List ℕ) (n : ℕ) : Type 0 where
-  pub within : n ≤ length (textOf judged first second)
-  pub is : take n (textOf judged first second) ≡ partOf judged first second
+  pub within : n ≤ length (takenFrom judged first second)
+  pub is : take n (takenFrom judged first second) ≡ partOf judged first second

@@ -1,5 +1,5 @@
 -- What a call of many lines answers, line by line: it refuses exactly for its own causes (`faultless-lines`, `lines-faultless`); where it does not, the
--- numbers of the line k stand in its row of the output (`row-at`, `row-told`), and where they are those of a score, demand 3 holds of it, whole
+-- numbers of the line k stand in its row of the output (`row-at`, `row-scored`), and where they are those of a score, demand 3 holds of it, whole
 -- (`demand-three-lines`), and so do 01's bounds of the ratios (`lines-at-most`). A threshold that such a call takes is finite; that it is an f32
 -- is what the call's signature says of it (`fits`).
 -- Assumes nothing.
@@ -101,14 +101,14 @@ module _ (threshold : Float) (classes pairs : List ℕ) where
 
 module _ (bytes : List ℕ) (threshold : Float) (classes pairs out : List ℕ) (n : ℕ) (e : answer bytes threshold classes pairs (length out) ≡ Count n) (k : ℕ) (h : k < n) where
   -- the line k, from 0 on
-  abbrev pub line : List ℕ
-  line = getD (linesOf bytes) k []
+  abbrev pub theLine : List ℕ
+  theLine = getD (linesOf bytes) k []
 
   -- its row in the output
-  abbrev pub row : List ℕ
-  row = take NUMBERS-PER-LINE (drop (NUMBERS-PER-LINE * k) (outAfter bytes threshold classes pairs out))
+  abbrev pub theRow : List ℕ
+  theRow = take NUMBERS-PER-LINE (drop (NUMBERS-PER-LINE * k) (outAfter bytes threshold classes pairs out))
 
-  pub row-at : row ≡ rowNumbers (messRatioUtf8 line threshold classes pairs)
+  pub row-at : theRow ≡ rowNumbers (messRatioUtf8 theLine threshold classes pairs)
   unfolding outAfter
   row-at =
       let a = lines-faultless bytes threshold classes pairs (length out) n e in
@@ -117,14 +117,14 @@ module _ (bytes : List ℕ) (threshold : Float) (classes pairs out : List ℕ) (
       (rw (put-first out (rows threshold classes pairs (linesOf bytes)))
       (row-in threshold classes pairs (linesOf bytes) k _ (omega (arith, a .1))))
 
-  module _ (s : Score) (told : messRatioUtf8 line threshold classes pairs ≡ Told s) where
-    pub row-told : row ≡ rowNumbers (Told s)
-    row-told = row-at ∙ ap rowNumbers told
+  module _ (s : Score) (told : messRatioUtf8 theLine threshold classes pairs ≡ Told s) where
+    pub row-scored : theRow ≡ rowNumbers (Told s)
+    row-scored = row-at ∙ ap rowNumbers told
 
-    pub demand-three-lines : fits binary32 threshold ≡ true → Certain (textOf line) threshold classes pairs s
+    pub demand-three-lines : fits binary32 threshold ≡ true → Certain (textOf theLine) threshold classes pairs s
     demand-three-lines f =
         let a = lines-faultless bytes threshold classes pairs (length out) n e in
-        demand-three-utf8 line threshold classes pairs s told (record { is-finite = a .0 .finite; is-f32 = f })
+        demand-three-utf8 theLine threshold classes pairs s told (record { is-finite = a .0 .finite; is-f32 = f })
 
     pub lines-at-most : Bounded s
-    lines-at-most = utf8-at-most line threshold classes pairs s told
+    lines-at-most = utf8-at-most theLine threshold classes pairs s told
