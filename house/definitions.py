@@ -19,6 +19,9 @@ PAGE = ROOT / "docs" / "DEFINITIONS.md"
 TRUST = ROOT / "docs" / "TRUST.md"
 LONGEST = 60
 
+# What a reader of 01 can check in an afternoon: lines of the definitions that stand under its sentences, the generated table not counted.
+AFTERNOON = 1500
+
 
 class Fault(Exception):
     pass
@@ -118,6 +121,7 @@ def other_names(house, module, items, seen):
 def write(house, seen, types):
     left, untyped = set(seen), set(types)
     out, lacking, beyond, sentence, said = [], [], [], None, False
+    part, sizes = "01", {"01": 0, "02": 0, "beyond": 0}
 
     def end():
         if sentence and not said:
@@ -127,6 +131,7 @@ def write(house, seen, types):
         if kind == "heading":
             end()
             sentence = None
+            part = "02" if text.startswith("Document 02") else "beyond" if text.endswith("beyond 01") else part
             out.append(f"\n## {text}\n")
         elif kind == "text":
             said = True
@@ -167,6 +172,8 @@ def write(house, seen, types):
                     raise Fault(f"house/sentences.txt:{number}: {place} {name} is not believed, or stands above already")
                 left.discard((module, name))
                 blocks.append(shown(items[name]))
+                if len(items[name].lines) <= LONGEST:
+                    sizes[part] += len(lines_of(items[name]))
             here = other_names(house, module, [items[name] for name in wanted], seen)
             out.append(f"`crates/{crate}/specs/{path}.antt`{f' ({here})' if here else ''}\n\n```\n" + "\n\n".join(blocks) + "\n```\n")
     end()
@@ -180,7 +187,7 @@ def write(house, seen, types):
         out.append(f"`crates/{crate}/src`{f' ({here})' if here else ''}\n\n```rust\n" + "\n\n".join(signatures) + "\n```\n")
     out.append("\n## Sentences of 01 that no definition says\n")
     out += [f"- \"{s}\" {w}" for s, w in lacking]
-    return out
+    return out, sizes
 
 
 def summary(house, seen):
@@ -207,9 +214,12 @@ def main():
     seen, types = house.believed()
     check_shelves(house, seen)
     count, lines, files, entries = summary(house, seen)
-    told = f"believed: {count} definitions, {lines} lines, {files} files (and {entries} lines of the generated table)"
+    body, sizes = write(house, seen, types)
+    if sizes["01"] >= AFTERNOON:
+        raise Fault(f"01's definitions are {sizes['01']} lines, and {AFTERNOON} are too many for an afternoon")
+    told = f"believed: {count} definitions, {lines} lines, {files} files (and {entries} lines of the generated table); {sizes['01']} of the lines are 01's, {sizes['02']} of 02, {sizes['beyond']} of what goes beyond 01"
     head = (ROOT / "house" / "head.md").read_text(encoding="utf-8").replace("BELIEVED", told.removeprefix("believed: "))
-    page = head + "\n".join(write(house, seen, types)) + "\n"
+    page = head + "\n".join(body) + "\n"
     trust = TRUST.read_text(encoding="utf-8")
     files_told = trusted(trust, told, seen)
     if sys.argv[1:] == ["--renew"]:
