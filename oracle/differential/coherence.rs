@@ -485,6 +485,58 @@ impl Run {
         }
     }
 
+    // Two or three characters of the kinds for which 6 is given, in each order.
+    fn unclassed_of_both_kinds(&mut self, times: usize) {
+        for _ in 0..times {
+            let world = aimed::World::new(&mut self.random);
+            let tables = Tables::lent(&world.classes, &world.pairs, &world.languages);
+            tables.lend();
+            let mut text = world.text;
+            for _ in 0..2 + self.random.below(2) {
+                let at = self.random.below(text.len() + 1);
+                text.insert(at, *self.random.pick(&aimed::STRAYS));
+            }
+            self.accepted_ranking(&Case { text, threshold: None, small: 0, included: vec![] }, &tables);
+        }
+    }
+
+    // Language tables at the edges of each field, in the first record and in the second, and of 62 to 64 records.
+    fn language_edges(&mut self, classes: &[u8], pairs: &[u8]) {
+        let good = languages::bytes(&[Record { number: 1, marks: 0, letters: vec![0x61; 3] }]);
+        let case = Case { text: vec![0x61; 40], threshold: None, small: CRATES_SMALL, included: vec![] };
+        let mut all: Vec<Vec<u8>> = vec![vec![], good[1..].to_vec(), [&good[..], &[0]].concat()];
+        for n in 62..=64 {
+            all.push(good.repeat(n));
+        }
+        // number, count, marks, the fourth letter
+        let counts = [0, 1, 2, 3, 4, 255, 256, 257, 0xFFFF];
+        for ((number, count), (marks, letter)) in (0..2u32).flat_map(|number| counts.map(|count| (number, count))).flat_map(|one| {
+            [0, 1, 2, 3, 4, 0x8000]
+                .into_iter()
+                .flat_map(move |marks| [0, 0x61, 0xD7FF, 0xD800, 0x110000].map(|letter| (one, (marks, letter))))
+        }) {
+            let words = [number, count | marks << 16].map(u32::to_le_bytes).concat();
+            let record = [&words[..], &good[8..20], &u32::to_le_bytes(letter), &good[24..]].concat();
+            let bare = [&words[..], &[0; 1_024]].concat();
+            all.extend([record.clone(), bare, [&good[..], &record].concat()]);
+        }
+        // what a good one ranks is not asked here
+        for languages in all {
+            let tables = Tables::new(classes, pairs, &languages);
+            let question = case.question(&tables);
+            let (work, matches) = (vec![0; 4 * case.text.len()], vec![CoherenceMatch { language: 0, score: 0.0 }; 64]);
+            let should = causes::refusal(&question, work.len(), matches.len());
+            let told = called(&question, &work, &matches).told;
+            self.counted();
+            self.coherence.cases += 1;
+            self.coherence.refused += should.is_some() as u64;
+            self.refused += should.is_some() as u64;
+            if (told.number, told.place) != should.unwrap_or((0, 0)) {
+                self.fail(|| format!("language table of {} bytes\nlibrary  {told:?}\nexpected {should:?}", languages.len()));
+            }
+        }
+    }
+
     // Included numbers with or without a cause of refusal in them.
     fn included_or_not(&mut self, bad: bool, numbers: &[u32]) -> Vec<u32> {
         let mut included = texts::included(&mut self.random, numbers);
@@ -557,6 +609,8 @@ impl Run {
         self.during("rankings at limits", |run| run.aimed_rankings(run.times(3_000, 60_000)));
         self.during("rankings at the sufficient score", |run| run.sufficient_scores(run.times(400, 10_000)));
         self.during("causes of coherence", |run| run.causes_of_coherence(run.times(4, 80), classes, pairs, &own));
+        self.during("edges of language tables", |run| run.language_edges(classes, pairs));
+        self.during("characters without a class", |run| run.unclassed_of_both_kinds(run.times(100, 2_000)));
         self.during("rankings of the longest text", |run| run.longest_rankings(classes, pairs, real));
         self.during("rankings with the crate's tables", |run| {
             run.crates_tables(run.times(1_200, 24_000), real, letters, alphabet, alphabets)

@@ -5,6 +5,7 @@
 typedef unsigned char u8;
 typedef unsigned int u32;
 typedef unsigned long usize;
+typedef unsigned long u64;
 
 int printf(const char *, ...);
 
@@ -13,9 +14,10 @@ typedef struct { u32 number, place; float ratios[8], sum; u32 fed, stopped; } Ho
 typedef struct { u32 taken, refused, number, place; } HostVerdict;
 typedef struct { u32 taken, length, number, place; } HostChosen;
 typedef struct { u32 number, place, count; } HostRanking;
+typedef struct { u32 number, place, head, count; } HostRing;
 typedef struct { u32 language; float score; } CoherenceMatch;
 
-_Static_assert(sizeof(HostRead) == 12 && sizeof(HostVerdict) == 16 && sizeof(HostChosen) == 16, "by value");
+_Static_assert(sizeof(HostRead) == 12 && sizeof(HostVerdict) == 16 && sizeof(HostChosen) == 16 && sizeof(HostRing) == 16, "by value");
 _Static_assert(sizeof(HostRanking) == 12 && sizeof(CoherenceMatch) == 8, "the ranking's");
 _Static_assert(sizeof(HostScore) == 52, "through the first pointer");
 
@@ -33,11 +35,14 @@ HostRanking drasumira_coherence(const u32 *text, usize n, float threshold, u32 s
     const u32 *included, usize included_n, u32 *work, usize work_n, CoherenceMatch *matches, usize matches_n);
 HostRanking drasumira_coherence_default(const u32 *text, usize n, u32 small, TABLES, const u8 *languages, usize languages_n,
     const u32 *included, usize included_n, u32 *work, usize work_n, CoherenceMatch *matches, usize matches_n);
+HostRing drasumira_ring_open(const u8 *ring, usize n);
+HostRing drasumira_ring_put(u8 *ring, usize n, u32 head, u32 count, u64 line, u32 bits, u32 fed, u32 stopped, u32 refusal);
+HostRing drasumira_ring_flush(const u8 *ring, usize n, u32 head, u32 count, u32 most, u8 *out, usize room);
 
 enum { LONGEST = 65536, RANKED = 8192, DEPTH = 1 << 20, SLACK = 256 };
 
 static u32 text[LONGEST], out[LONGEST], work[4 * RANKED];
-static u8 bytes[LONGEST], pairs[32768], language[1032];
+static u8 bytes[LONGEST], pairs[32768], language[1032], ring[LONGEST], flushed[LONGEST];
 static CoherenceMatch matches[1];
 static HostScore told;
 static usize n;
@@ -55,6 +60,9 @@ static void verdict(void) { drasumira_verdict(text, n, text, n, LENT); }
 static void choose(void) { drasumira_choose(text, n, text, n, LENT); }
 static void coherence(void) { drasumira_coherence(text, n, 0, 32, RANKING); }
 static void coherence_default(void) { drasumira_coherence_default(text, n, 32, RANKING); }
+static void ring_open(void) { drasumira_ring_open(ring, LONGEST); }
+static void ring_put(void) { drasumira_ring_put(ring, LONGEST, 0, 0, n, 0, 1, 0, 0); }
+static void ring_flush(void) { drasumira_ring_flush(ring, LONGEST, 0, 1, 1, flushed, LONGEST); }
 
 #define PAINT 0xA5A5A5A5A5A5A5A5ul
 static __attribute__((noinline)) usize used(void (*call)(void)) {
@@ -72,6 +80,7 @@ int main(void) {
         {"score_default", score_default, LONGEST}, {"score_utf8", score_utf8, LONGEST}, {"score_utf8_default", score_utf8_default, LONGEST},
         {"score_lines", score_lines, LONGEST}, {"verdict", verdict, LONGEST}, {"choose", choose, LONGEST},
         {"coherence", coherence, RANKED}, {"coherence_default", coherence_default, RANKED},
+        {"ring_open", ring_open, LONGEST}, {"ring_put", ring_put, LONGEST}, {"ring_flush", ring_flush, LONGEST},
     };
     static const usize lengths[] = {80, 256, 257, 4096, 4097, RANKED, LONGEST};
     for (usize i = 0; i < LONGEST; i++) text[i] = bytes[i] = 'a' + i * 7 % 26;

@@ -13,6 +13,9 @@ const PLAIN: u32 = 36; // letters of a block, and behind them accented ones
 const ACCENTED: u32 = 3;
 const UNKNOWN: u32 = 0x2000; // letters of a language that no text has, in no record
 
+// Of the first block: a letter whose lower case has no class, one that is not taken; then characters in no record.
+pub const STRAYS: [u32; 4] = [0x3400 + 46, 0x3400 + 47, 0x3400 + 50, 0x3FFF];
+
 pub struct World {
     pub classes: Vec<tables::Record>,
     pub pairs: Vec<u8>,
@@ -162,7 +165,7 @@ impl World {
         }
         if r.below(60) == 0 {
             let at = r.below(text.len() + 1);
-            text.insert(at, *r.pick(&[block(0) + 46, block(0) + 47, block(0) + 50, 0x3FFF]));
+            text.insert(at, *r.pick(&STRAYS));
         }
         let unlike = r.below(2) == 0;
         let mut languages = vec![];
