@@ -1,33 +1,21 @@
 // Code pages: the library beside a plain Rust loop over the page's entries, and beside encoding_rs where it is there (oracle/benchmark/run says how).
 // The loop trusts its page, and stops at what the page has not; the library checks the page in each call. The loop that writes walks the entries.
 // encoding_rs reads into UTF-16 and writes from it, and knows its pages beforehand.
-use crate::{ENGLISH, FRENCH, RUSSIAN, nanoseconds};
+use crate::{ENGLISH, FRENCH, RUSSIAN, library, nanoseconds};
 use std::hint::black_box;
 
 const LENGTHS: [usize; 4] = [0, 80, 1_000, 65_536];
 
-unsafe extern "C" {
-    fn drasumira_read_page(page: *const u16, entries: usize, bytes: *const u8, n: usize, out: *mut u32, room: usize) -> HostRead;
-    fn drasumira_write_page(page: *const u16, entries: usize, text: *const u32, n: usize, out: *mut u8, room: usize) -> HostRead;
-}
-
-#[repr(C)]
-struct HostRead {
-    number: u32,
-    _place: u32,
-    count: u32,
-}
-
 type Page = [u16; 128];
 
 fn read(page: &Page, bytes: &[u8], out: &mut [u32]) -> usize {
-    let told = unsafe { drasumira_read_page(page.as_ptr(), page.len(), bytes.as_ptr(), bytes.len(), out.as_mut_ptr(), out.len()) };
+    let told = library::read_page(page, bytes, out);
     assert_eq!(told.number, 0);
     told.count as usize
 }
 
 fn write(page: &Page, text: &[u32], out: &mut [u8]) -> usize {
-    let told = unsafe { drasumira_write_page(page.as_ptr(), page.len(), text.as_ptr(), text.len(), out.as_mut_ptr(), out.len()) };
+    let told = library::write_page(page, text, out);
     assert_eq!(told.number, 0);
     told.count as usize
 }

@@ -1,6 +1,6 @@
 // Code pages, read and written. What is expected is written here a second time, from the words of 02 [1] alone. Every lent slice stands between canaries
 // or against a wall, and what was accepted is handed back to the other call, which must give what came first.
-use crate::library::{BYTE, Guarded, HostRead, WORD};
+use crate::library::{BYTE, Guarded, HostRead, WORD, read_page as read, write_page as write};
 use crate::{LONGEST_TEXT, Run};
 
 const ENTRIES: usize = 128;
@@ -14,19 +14,6 @@ const NEVER: [u32; 8] = [0xFFFF, 0x1_0000, 0x1_FFFF, 0x11_0000, u32::MAX, 0xD800
 // Entries that a good page may not have, and the lowest, the highest and others at an edge that it may.
 const BAD: [u16; 6] = [0, 0x41, 0x7F, 0xD800, 0xDABC, 0xDFFF];
 const EDGES: [u16; 6] = [0x80, 0xFF, 0x100, 0xD7FF, 0xE000, 0xFFFE];
-
-unsafe extern "C" {
-    fn drasumira_read_page(page: *const u16, entries: usize, bytes: *const u8, n: usize, out: *mut u32, room: usize) -> HostRead;
-    fn drasumira_write_page(page: *const u16, entries: usize, text: *const u32, n: usize, out: *mut u8, room: usize) -> HostRead;
-}
-
-fn read(page: &[u16], bytes: &[u8], out: &mut [u32]) -> HostRead {
-    unsafe { drasumira_read_page(page.as_ptr(), page.len(), bytes.as_ptr(), bytes.len(), out.as_mut_ptr(), out.len()) }
-}
-
-fn write(page: &[u16], text: &[u32], out: &mut [u8]) -> HostRead {
-    unsafe { drasumira_write_page(page.as_ptr(), page.len(), text.as_ptr(), text.len(), out.as_mut_ptr(), out.len()) }
-}
 
 // "used entries at least 0080, distinct, no surrogate"; of two equal ones the later is bad.
 fn bad_entry(page: &[u16], i: usize) -> bool {
