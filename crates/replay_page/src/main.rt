@@ -74,7 +74,7 @@ fn given(case: &[u8], i: usize) -> u32 {
 }
 
 // The element i that the output must have, where it is below the count.
-fn told(case: &[u8], i: usize) -> u32 {
+fn told_element(case: &[u8], i: usize) -> u32 {
     let unit = word(case, UNIT) as usize % SMALL;
     word(case, UNIT_FROM + unit + in_unit(case, i))
 }
@@ -87,7 +87,7 @@ fn put_page(case: &[u8], page: &mut [u16]) {
     }
 }
 
-fn put_bytes(case: &[u8], bytes: &mut [u8]) {
+fn put_page_bytes(case: &[u8], bytes: &mut [u8]) {
     let mut i = 0;
     while i < bytes.len() {
         bytes[i] = (given(case, i) % 256) as u8;
@@ -108,7 +108,7 @@ fn left(case: &[u8], i: usize, untouched: u32) -> u32 {
     if word(case, COUNT) as usize <= i {
         return untouched;
     }
-    told(case, i)
+    told_element(case, i)
 }
 
 fn same_text(case: &[u8], out: &[u32]) -> bool {
@@ -148,7 +148,7 @@ fn same_answer(case: &[u8], answer: Counted) -> bool {
     }
 }
 
-fn entries_of(case: &[u8]) -> usize
+fn page_size(case: &[u8]) -> usize
     ensures { λ r. ⌜ r ≤ PAGE-ROOM ⌝ }
 {
     least(word(case, ENTRIES) as usize, PAGE_ROOM)
@@ -163,7 +163,7 @@ fn length_of(case: &[u8], k: usize) -> usize
 
 fn same_reading(case: &[u8], page: &mut [u16], bytes: &mut [u8], out: &mut [u32]) -> bool {
     put_page(case, page);
-    put_bytes(case, bytes);
+    put_page_bytes(case, bytes);
     let answer = read_page(&page[..], &bytes[..], out);
     same_answer(case, answer) & same_text(case, &out[..])
 }
@@ -179,17 +179,22 @@ fn reading(case: &[u8]) -> bool {
     let mut page = [0u16; PAGE_ROOM];
     let mut bytes = [0u8; LONGEST];
     let mut out = [UNTOUCHED; LONGEST];
-    let entries = entries_of(case);
+    let entries = page_size(case);
     let n = length_of(case, LENGTH);
     let room = length_of(case, ROOM);
-    same_reading(case, &mut page[..entries], &mut bytes[..n], &mut out[..room])
+    same_reading(
+        case,
+        &mut page[..entries],
+        &mut bytes[..n],
+        &mut out[..room],
+    )
 }
 
 fn writing(case: &[u8]) -> bool {
     let mut page = [0u16; PAGE_ROOM];
     let mut text = [0u32; LONGEST];
     let mut out = [UNTOUCHED_BYTE; LONGEST];
-    let entries = entries_of(case);
+    let entries = page_size(case);
     let n = length_of(case, LENGTH);
     let room = length_of(case, ROOM);
     same_writing(case, &mut page[..entries], &mut text[..n], &mut out[..room])

@@ -4,8 +4,8 @@ use Prim.Native.Nat.{_≤_, _-_}
 use native.Mathlib.Omega.{arith}
 use lib.ListN.{length-set, length}
 use borrow.Author.Needs.{needs}
-use Rattle.replay_page.proofs.put_bytes.Statement.{statement}
-use Rattle.replay_page.proofs.put_bytes.Tie as tie
+use Rattle.replay_page.proofs.put_page_bytes.Statement.{statement}
+use Rattle.replay_page.proofs.put_page_bytes.Tie as tie
 
 abbrev Inv-loop : tie.InvT-loop
 Inv-loop case bytes₀ i₀ bytes i = (i ≤ length bytes) × (length bytes ≡ length bytes₀)
@@ -16,8 +16,8 @@ abbrev μ-loop : tie.MeasureT-loop
 loop-again : tie.Need-loop-again Inv-loop μ-loop
 loop-again c = (simp length-set (omega arith), simp length-set (omega arith))
 
-pub put-bytes-spec : {M : Type 1} → statement M
-put-bytes-spec =
+pub put-page-bytes-spec : {M : Type 1} → statement M
+put-page-bytes-spec =
     tie.close
     (tie.spec
     Inv-loop
