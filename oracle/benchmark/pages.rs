@@ -71,9 +71,13 @@ fn others(name: &str, bytes: &[u8], text: &[u32]) -> [String; 2] {
     let (mut words, mut back) = (vec![0; text.len()], vec![0; text.len() + 16]);
     theirs::read(name, bytes, &mut words);
     assert!(words.iter().map(|word| *word as u32).eq(text.iter().copied()), "{name}: encoding_rs reads another text");
-    let reading = nanoseconds(|| drop(black_box(theirs::read(name, black_box(bytes), &mut words))));
+    let reading = nanoseconds(|| {
+        black_box(theirs::read(name, black_box(bytes), &mut words));
+    });
     let given = words.clone();
-    let writing = nanoseconds(|| drop(black_box(theirs::write(name, black_box(&given), &mut back))));
+    let writing = nanoseconds(|| {
+        black_box(theirs::write(name, black_box(&given), &mut back));
+    });
     [reading, writing].map(|time| format!("{time:.0}"))
 }
 
@@ -97,10 +101,18 @@ pub fn table(dir: &str) {
             assert_eq!(write(&page, &points, &mut bytes), n);
             assert!(read(&page, &bytes, &mut out) == n && out == points, "{name}: what was written is read");
             let given = bytes.clone();
-            let reading = nanoseconds(|| drop(black_box(read(&page, black_box(&given), &mut out))));
-            let plain = nanoseconds(|| drop(black_box(plain_read(&page, black_box(&given), &mut out))));
-            let writing = nanoseconds(|| drop(black_box(write(&page, black_box(&points), &mut bytes))));
-            let walked = nanoseconds(|| drop(black_box(plain_write(&page, black_box(&points), &mut bytes))));
+            let reading = nanoseconds(|| {
+                black_box(read(&page, black_box(&given), &mut out));
+            });
+            let plain = nanoseconds(|| {
+                black_box(plain_read(&page, black_box(&given), &mut out));
+            });
+            let writing = nanoseconds(|| {
+                black_box(write(&page, black_box(&points), &mut bytes));
+            });
+            let walked = nanoseconds(|| {
+                black_box(plain_write(&page, black_box(&points), &mut bytes));
+            });
             let [their_reading, their_writing] = others(name, &given, &points);
             println!(
                 "| {name} | {text} | {n} | {reading:.0} | {plain:.0} | {their_reading} | {writing:.0} | {walked:.0} | {their_writing} |"
