@@ -8,6 +8,7 @@ mod coherence;
 #[allow(dead_code)]
 mod library;
 mod lines;
+mod pages;
 mod ring;
 
 use library::Lent;
@@ -124,7 +125,8 @@ fn table(all: &Lent, none: &Lent) {
 fn main() {
     let words: Vec<String> = std::env::args().skip(1).collect();
     let words: Vec<&str> = words.iter().map(String::as_str).collect();
-    let dir = words.first().expect("usage: benchmark TABLES [ring | coherence [SIDE NAME LENGTH CALLS] | SIDE NAME LENGTH all|none CALLS]");
+    let usage = "usage: benchmark TABLES [ring | pages | coherence [SIDE NAME LENGTH CALLS] | SIDE NAME LENGTH all|none CALLS]";
+    let dir = words.first().expect(usage);
     let file = |name: &str| std::fs::read(format!("{dir}/{name}.bin")).expect(name);
     let (classes, pairs) = (file("classes"), file("pairs"));
     let (all, none) = (Lent::new(&classes, &pairs), Lent::new(&[], &pairs));
@@ -132,6 +134,7 @@ fn main() {
     match words[1..] {
         ["coherence"] => coherence::table(&rankings),
         ["ring"] => ring::table(),
+        ["pages"] => pages::table(dir),
         ["coherence", side, name, n, calls] => {
             coherence::calls(&rankings, side, name, n.parse().expect("a length"), calls.parse().expect("a number of calls"))
         }
@@ -145,7 +148,9 @@ fn main() {
             table(&all, &none);
             ring::table();
             println!();
-            coherence::table(&rankings)
+            coherence::table(&rankings);
+            println!();
+            pages::table(dir)
         }
     }
 }

@@ -81,6 +81,8 @@ pub struct HostRing {
 unsafe extern "C" {
     fn drasumira_check_classes(classes: *const u8, n: usize) -> HostRead;
     fn drasumira_read(bytes: *const u8, n: usize, out: *mut u32, room: usize) -> HostRead;
+    fn drasumira_read_page(page: *const u16, entries: usize, bytes: *const u8, n: usize, out: *mut u32, room: usize) -> HostRead;
+    fn drasumira_write_page(page: *const u16, entries: usize, text: *const u32, n: usize, out: *mut u8, room: usize) -> HostRead;
     fn drasumira_score(
         told: *mut HostScore,
         text: *const u32,
@@ -195,6 +197,14 @@ pub fn check_classes(classes: &[u8]) -> HostRead {
 pub fn read(bytes: &[u8], out: &mut Guarded<u32>) -> HostRead {
     let out = out.list_mut();
     unsafe { drasumira_read(bytes.as_ptr(), bytes.len(), out.as_mut_ptr(), out.len()) }
+}
+
+pub fn read_page(page: &[u16], bytes: &[u8], out: &mut [u32]) -> HostRead {
+    unsafe { drasumira_read_page(page.as_ptr(), page.len(), bytes.as_ptr(), bytes.len(), out.as_mut_ptr(), out.len()) }
+}
+
+pub fn write_page(page: &[u16], text: &[u32], out: &mut [u8]) -> HostRead {
+    unsafe { drasumira_write_page(page.as_ptr(), page.len(), text.as_ptr(), text.len(), out.as_mut_ptr(), out.len()) }
 }
 
 // No threshold: the call for the default one.

@@ -9,6 +9,7 @@ mod coherence;
 mod edges;
 mod library;
 mod lines;
+mod pages;
 mod random;
 mod ring;
 mod tables;
@@ -588,7 +589,7 @@ fn main() {
             (how == "full", survey, dir, more.first().map_or(SEED, |seed| number(seed)), more.get(1).copied())
         }
         _ => {
-            eprintln!("usage: differential quick|full|survey-once|survey-twice TABLES [SEED [scoring|reading|coherence]]");
+            eprintln!("usage: differential quick|full|survey-once|survey-twice TABLES [SEED [scoring|reading|pages|coherence]]");
             std::process::exit(2)
         }
     };
@@ -613,11 +614,12 @@ fn main() {
     let started = Instant::now();
     walls::watch();
     eprintln!("seed {seed}, over {}", env!("LIBRARY"));
-    for name in ["scoring", "reading", "coherence"].into_iter().filter(|name| part.is_none_or(|part| part == *name)) {
+    for name in ["scoring", "reading", "pages", "coherence"].into_iter().filter(|name| part.is_none_or(|part| part == *name)) {
         run.part = name;
         match name {
             "scoring" => run.scoring(&classes, &pairs, &languages),
             "reading" => run.reading_and_choosing(&classes, &pairs),
+            "pages" => run.code_pages(dir),
             _ => run.coherence(&classes, &pairs, &languages),
         }
     }

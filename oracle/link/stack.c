@@ -1,8 +1,9 @@
 /* How many bytes of stack each entry of the library takes, its callees among them: `oracle/link/run-x86 oracle/link/stack.c target/staticlib/libhost.a OUT`
    after `rt staticlib host`. It is also a C host: it declares the entries as docs/HOST.md has them, and asserts the layouts of the answers.
    The stack below the caller is painted before a call, and looked through for the first word that is no longer the paint. Tables: no class
-   record, no suspicious pair, one language. Texts: small letters. */
+   record, no suspicious pair, one language, a page without an unused entry. Texts: small letters. */
 typedef unsigned char u8;
+typedef unsigned short u16;
 typedef unsigned int u32;
 typedef unsigned long usize;
 typedef unsigned long u64;
@@ -24,6 +25,8 @@ _Static_assert(sizeof(HostScore) == 52, "through the first pointer");
 #define TABLES const u8 *classes, usize classes_n, const u8 *pairs, usize pairs_n
 HostRead drasumira_check_classes(const u8 *classes, usize classes_n);
 HostRead drasumira_read(const u8 *bytes, usize n, u32 *out, usize room);
+HostRead drasumira_read_page(const u16 *page, usize entries, const u8 *bytes, usize n, u32 *out, usize room);
+HostRead drasumira_write_page(const u16 *page, usize entries, const u32 *text, usize n, u8 *out, usize room);
 HostScore *drasumira_score(HostScore *told, const u32 *text, usize n, float threshold, TABLES);
 HostScore *drasumira_score_default(HostScore *told, const u32 *text, usize n, TABLES);
 HostScore *drasumira_score_utf8(HostScore *told, const u8 *text, usize n, float threshold, TABLES);
@@ -42,7 +45,8 @@ HostRing drasumira_ring_flush(const u8 *ring, usize n, u32 head, u32 count, u32 
 enum { LONGEST = 65536, RANKED = 8192, DEPTH = 1 << 20, SLACK = 256 };
 
 static u32 text[LONGEST], out[LONGEST], work[4 * RANKED];
-static u8 bytes[LONGEST], pairs[32768], language[1032], ring[LONGEST], flushed[LONGEST];
+static u8 bytes[LONGEST], back[LONGEST], pairs[32768], language[1032], ring[LONGEST], flushed[LONGEST];
+static u16 page[128];
 static CoherenceMatch matches[1];
 static HostScore told;
 static usize n;
@@ -51,6 +55,8 @@ static usize n;
 #define RANKING LENT, language, sizeof language, 0, 0, work, 4 * n, matches, 1
 static void check_classes(void) { drasumira_check_classes(0, 0); }
 static void read_bytes(void) { drasumira_read(bytes, n, out, n); }
+static void read_page(void) { drasumira_read_page(page, 128, bytes, n, out, n); }
+static void write_page(void) { drasumira_write_page(page, 128, text, n, back, n); }
 static void score(void) { drasumira_score(&told, text, n, 9, LENT); }
 static void score_default(void) { drasumira_score_default(&told, text, n, LENT); }
 static void score_utf8(void) { drasumira_score_utf8(&told, bytes, n, 9, LENT); }
@@ -76,7 +82,8 @@ static __attribute__((noinline)) usize used(void (*call)(void)) {
 
 int main(void) {
     static const struct { const char *name; void (*call)(void); usize most; } entries[] = {
-        {"check_classes", check_classes, LONGEST}, {"read", read_bytes, LONGEST}, {"score", score, LONGEST},
+        {"check_classes", check_classes, LONGEST}, {"read", read_bytes, LONGEST},
+        {"read_page", read_page, LONGEST}, {"write_page", write_page, LONGEST}, {"score", score, LONGEST},
         {"score_default", score_default, LONGEST}, {"score_utf8", score_utf8, LONGEST}, {"score_utf8_default", score_utf8_default, LONGEST},
         {"score_lines", score_lines, LONGEST}, {"verdict", verdict, LONGEST}, {"choose", choose, LONGEST},
         {"coherence", coherence, RANKED}, {"coherence_default", coherence_default, RANKED},
@@ -84,6 +91,7 @@ int main(void) {
     };
     static const usize lengths[] = {80, 256, 257, 4096, 4097, RANKED, LONGEST};
     for (usize i = 0; i < LONGEST; i++) text[i] = bytes[i] = 'a' + i * 7 % 26;
+    for (usize i = 0; i < 128; i++) page[i] = 0x400 + i;
     language[0] = 1, language[4] = 1, language[8] = 'a';
     for (usize e = 0; e < sizeof entries / sizeof *entries; e++) {
         printf("drasumira_%s", entries[e].name);

@@ -28,12 +28,14 @@
 mod chooser;
 mod coherence;
 mod host;
+mod page;
 mod refusal;
 mod ring;
 mod text;
 
 pub use chooser::{RefusedText, Which, choose, verdict};
 pub use coherence::{CoherenceMatch, Languages, TOO_SMALL_SEQUENCE, coherence, language_name};
+pub use page::Page;
 pub use refusal::Refusal;
 pub use ring::{MOST_RECORDS, RECORD, Record, Ring};
 pub use text::{Part, Text};

@@ -6,7 +6,7 @@ use std::fmt;
 /// ```
 /// use drasumira::Refusal;
 /// let refusal = Refusal::new(Refusal::ILL_FORMED, 7);
-/// assert_eq!(refusal.to_string(), "refusal 2: the bytes are not UTF-8; the bad sequence begins at byte 7");
+/// assert_eq!(refusal.to_string(), "refusal 2: the bytes are not UTF-8, or not of the code page, from byte 7 on");
 /// ```
 #[derive(Clone, Copy, Debug, PartialEq, Eq, Hash)]
 #[non_exhaustive]
@@ -18,9 +18,9 @@ pub struct Refusal {
 }
 
 impl Refusal {
-    /// Over 262,144 bytes or 65,536 code points; in a ranking over 8,192 code points; many lines over 16,777,216 bytes.
+    /// Over 262,144 bytes or 65,536 code points; under a code page over 65,536 bytes; in a ranking over 8,192 code points; many lines over 16,777,216 bytes.
     pub const TOO_LONG: u32 = 1;
-    /// Bytes that are not UTF-8. The place is the first byte of the bad sequence.
+    /// Bytes that are not UTF-8: the place is the first byte of the bad sequence. Under a code page a byte that is unused: the place is its index.
     pub const ILL_FORMED: u32 = 2;
     /// A lent output or work area is too short.
     pub const NO_ROOM: u32 = 3;
@@ -36,6 +36,10 @@ impl Refusal {
     pub const BAD_LANGUAGES: u32 = 8;
     /// Over 64 included numbers, place 0, or one that is not in the table, place its index.
     pub const BAD_INCLUDED: u32 = 9;
+    /// A code page is not good. The place is its first bad entry, or 0 where it has not 128.
+    pub const BAD_PAGE: u32 = 10;
+    /// A code page has no byte for a code point. The place is its index in the text.
+    pub const NOT_ON_PAGE: u32 = 11;
     /// A ring that is not 1 to 2,048 records of 32 bytes, or whose head is not below its size or its count above it.
     pub const BAD_RING: u32 = 15;
     /// A ring that holds as many records as it has slots.
@@ -56,7 +60,7 @@ impl fmt::Display for Refusal {
                 f,
                 "the text is over 262,144 bytes or 65,536 code points, in a ranking over 8,192 code points, or many lines are over 16,777,216 bytes"
             ),
-            Refusal::ILL_FORMED => write!(f, "the bytes are not UTF-8; the bad sequence begins at byte {place}"),
+            Refusal::ILL_FORMED => write!(f, "the bytes are not UTF-8, or not of the code page, from byte {place} on"),
             Refusal::NO_ROOM => write!(f, "a lent output or work area is too short"),
             Refusal::NOT_FINITE => write!(f, "the threshold is not a finite number"),
             Refusal::BAD_CLASSES => bad_table(f, "class", place),
@@ -69,6 +73,9 @@ impl fmt::Display for Refusal {
                 write!(f, "over 64 numbers are included, or the one at index 0 is in no record of the language table")
             }
             Refusal::BAD_INCLUDED => write!(f, "the included number at index {place} is in no record of the language table"),
+            Refusal::BAD_PAGE if place == 0 => write!(f, "the code page is not good: its number of entries, or entry 0"),
+            Refusal::BAD_PAGE => write!(f, "the code page is not good: entry {place}, counted from 0, is the first bad one"),
+            Refusal::NOT_ON_PAGE => write!(f, "the code page has no byte for the code point at index {place}"),
             Refusal::BAD_RING => write!(f, "the ring is not 1 to 2,048 records of 32 bytes, or its head or its count is past its size"),
             Refusal::RING_FULL => write!(f, "the ring is full"),
             _ => write!(f, "place {place}"),

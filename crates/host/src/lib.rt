@@ -5,6 +5,7 @@ ghost use lib.ListN.{length};
 ghost use Rattle.base.specs.Counted.{lentAfter};
 ghost use Rattle.classes.specs.Check.{checked};
 ghost use Rattle.utf8.specs.Answer.{answer, outAfter};
+ghost use Rattle.page.specs.Answer.{readAnswer, readInto, writeAnswer, writeInto};
 ghost use Rattle.md.specs.MessRatio.{messRatio, messRatioDefault};
 ghost use Rattle.md_utf8.specs.ScoreUtf8.{messRatioUtf8, messRatioUtf8Default};
 ghost use Rattle.md_lines.specs.Burst as bursts;
@@ -80,6 +81,24 @@ pub extern "C" fn drasumira_read(bytes: &[u8], out: &mut [u32]) -> HostRead
     ensures { λ _. ⌜ now (out .exit) ≡ outAfter (now (bytes .entry)) (now (out .entry)) ⌝ }
 {
     flat_counted(utf8::read_utf8(bytes, out))
+}
+
+// The code points of bytes under a code page, into the first places of out.
+#[no_mangle]
+pub extern "C" fn drasumira_read_page(page: &[u16], bytes: &[u8], out: &mut [u32]) -> HostRead
+    ensures { λ r. ⌜ r ≡ hostCounted (readAnswer (now (page .entry)) (now (bytes .entry)) (length (now (out .entry)))) ⌝ }
+    ensures { λ _. ⌜ now (out .exit) ≡ readInto (now (page .entry)) (now (bytes .entry)) (now (out .entry)) ⌝ }
+{
+    flat_counted(page::read_page(page, bytes, out))
+}
+
+// The bytes of a text under a code page, into the first places of out.
+#[no_mangle]
+pub extern "C" fn drasumira_write_page(page: &[u16], text: &[u32], out: &mut [u8]) -> HostRead
+    ensures { λ r. ⌜ r ≡ hostCounted (writeAnswer (now (page .entry)) (now (text .entry)) (length (now (out .entry)))) ⌝ }
+    ensures { λ _. ⌜ now (out .exit) ≡ writeInto (now (page .entry)) (now (text .entry)) (now (out .entry)) ⌝ }
+{
+    flat_counted(page::write_page(page, text, out))
 }
 
 // The mess ratio of a text.
