@@ -3,6 +3,7 @@
 ghost use Prim.Native.Nat.{_≤_, _<_};
 ghost use Rattle.replay_ring.specs.Inner.Sizes.{SMALL, RING, OUTPUT};
 use replay::WORD;
+use replay::byte;
 use replay::first_case;
 use replay::least;
 use replay::next_case;
@@ -73,20 +74,16 @@ const OUTPUT: usize = 1024;
 // What stands in the output before a call.
 const UNTOUCHED: u8 = 0xEE;
 
-// The k-th word of the head, where it is a small number.
-fn small(case: &[u8], k: usize) -> usize
+// The k-th word of the head, where it says how many bytes are told.
+fn told_size(case: &[u8], k: usize) -> usize
     ensures { λ r. ⌜ r < SMALL ⌝ }
 {
     word(case, k) as usize % SMALL
 }
 
-fn byte(case: &[u8], i: usize) -> u8 {
-    if i < case.len() { case[i] } else { 0 }
-}
-
 // The i-th byte of the ring before the call: those told, then zeros.
 fn byte_before(case: &[u8], i: usize) -> u8 {
-    let told = small(case, TOLD);
+    let told = told_size(case, TOLD);
     if i < told {
         return byte(case, HEAD_WORDS * WORD + i);
     }
@@ -95,7 +92,7 @@ fn byte_before(case: &[u8], i: usize) -> u8 {
 
 // The same after the call.
 fn byte_after(case: &[u8], i: usize) -> u8 {
-    let told = small(case, TOLD);
+    let told = told_size(case, TOLD);
     if i < told {
         return byte(case, HEAD_WORDS * WORD + told + i);
     }
@@ -104,8 +101,8 @@ fn byte_after(case: &[u8], i: usize) -> u8 {
 
 // The i-th byte of the output after the call: those told, then what stood there.
 fn byte_out(case: &[u8], i: usize) -> u8 {
-    let told = small(case, TOLD);
-    let written = small(case, WRITTEN);
+    let told = told_size(case, TOLD);
+    let written = told_size(case, WRITTEN);
     if i < written {
         return byte(case, HEAD_WORDS * WORD + told + told + i);
     }
@@ -120,7 +117,7 @@ fn put_ring(case: &[u8], ring: &mut [u8]) {
     }
 }
 
-fn put_untouched(out: &mut [u8]) {
+fn mark_output(out: &mut [u8]) {
     let mut i = 0;
     while i < out.len() {
         out[i] = UNTOUCHED;
@@ -163,7 +160,7 @@ fn verdict_of(case: &[u8]) -> Verdict {
 }
 
 // The answer of the case's call.
-fn answer(case: &[u8], ring: &mut [u8], out: &mut [u8]) -> Ringed {
+fn ring_answer(case: &[u8], ring: &mut [u8], out: &mut [u8]) -> Ringed {
     let call = word(case, CALL);
     let head = word(case, HEAD);
     let count = word(case, COUNT);
@@ -194,8 +191,8 @@ fn same_answer(case: &[u8], answer: Ringed) -> bool {
 // Whether the case's call answers and leaves what the list says.
 fn same_case(case: &[u8], ring: &mut [u8], out: &mut [u8]) -> bool {
     put_ring(case, ring);
-    put_untouched(out);
-    let told = answer(case, ring, out);
+    mark_output(out);
+    let told = ring_answer(case, ring, out);
     same_answer(case, told) & (same_ring(case, &ring[..]) & same_output(case, &out[..]))
 }
 
@@ -205,7 +202,7 @@ fn ring_size(case: &[u8]) -> usize
     least(word(case, SIZE) as usize, RING)
 }
 
-fn room_of(case: &[u8]) -> usize
+fn output_room(case: &[u8]) -> usize
     ensures { λ r. ⌜ r ≤ OUTPUT ⌝ }
 {
     least(word(case, ROOM) as usize, OUTPUT)
@@ -218,7 +215,7 @@ fn main() {
     let mut t = first_case(&mut buf);
     while t.size > 0 {
         let size = ring_size(&buf[..t.size]);
-        let room = room_of(&buf[..t.size]);
+        let room = output_room(&buf[..t.size]);
         let same = same_case(&buf[..t.size], &mut ring[..size], &mut out[..room]);
         t = next_case(&mut buf, t, same);
     }

@@ -28,8 +28,8 @@ loop-holds c =
 slice-aggregate-ring-size : tie.Need-slice-aggregate-ring-size Inv-loop μ-loop
 slice-aggregate-ring-size c = replaying-case (c .before .before .before .loop .inv .0)
 
-slice-aggregate-room-of : tie.Need-slice-aggregate-room-of Inv-loop μ-loop
-slice-aggregate-room-of c = replaying-case (c .before .before .before .before .before .loop .inv .0)
+slice-aggregate-output-room : tie.Need-slice-aggregate-output-room Inv-loop μ-loop
+slice-aggregate-output-room c = replaying-case (c .before .before .before .before .before .loop .inv .0)
 
 slice-aggregate-same-case : tie.Need-slice-aggregate-same-case Inv-loop μ-loop
 slice-aggregate-same-case c = replaying-case (c .before .before .before .before .before .before .before .loop .inv .0)
@@ -48,7 +48,7 @@ loop-again c =
     let turn = read .before .before .before .before .before .before in (
       record { size = turned .fits .same ∙ turn .loop .inv .0 .size; sound = turned .sound; within = turned .fits .within },
       length-front (turn .loop .ring) (called .same-case .last .1 .0) (read .before .before .ring-size .result) (called .same-case .kept .1 .0) ∙ turn .loop .inv .1,
-      length-front (turn .loop .out) (called .same-case .last .1 .1 .0) (read .room-of .result) (called .same-case .kept .1 .1 .0) ∙ turn .loop .inv .2,
+      length-front (turn .loop .out) (called .same-case .last .1 .1 .0) (read .output-room .result) (called .same-case .kept .1 .1 .0) ∙ turn .loop .inv .2,
     )
 
 pub main-spec : {M : Type 1} → statement M
@@ -64,7 +64,7 @@ main-spec =
     slice-aggregate-ring-size
     (λ c κs. search needs)
     (λ c. search needs)
-    slice-aggregate-room-of
+    slice-aggregate-output-room
     (λ c κs. search needs)
     (λ c. search needs)
     slice-aggregate-same-case

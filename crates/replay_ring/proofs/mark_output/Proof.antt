@@ -4,8 +4,8 @@ use Prim.Native.Nat.{_≤_, _-_}
 use native.Mathlib.Omega.{arith}
 use lib.ListN.{length-set, length}
 use borrow.Author.Needs.{needs}
-use Rattle.replay_ring.proofs.put_untouched.Statement.{statement}
-use Rattle.replay_ring.proofs.put_untouched.Tie as tie
+use Rattle.replay_ring.proofs.mark_output.Statement.{statement}
+use Rattle.replay_ring.proofs.mark_output.Tie as tie
 
 abbrev Inv-loop : tie.InvT-loop
 Inv-loop out₀ i₀ out i = (i ≤ length out) × (length out ≡ length out₀)
@@ -16,8 +16,8 @@ abbrev μ-loop : tie.MeasureT-loop
 loop-again : tie.Need-loop-again Inv-loop μ-loop
 loop-again c = (simp length-set (omega arith), simp length-set (omega arith))
 
-pub put-untouched-spec : {M : Type 1} → statement M
-put-untouched-spec =
+pub mark-output-spec : {M : Type 1} → statement M
+mark-output-spec =
     tie.close
     (tie.spec
     Inv-loop
