@@ -177,7 +177,7 @@ impl Run {
     }
 
     // Histories of rings of 1 to a few slots, and of sizes up to the most.
-    pub fn rings(&mut self, times: usize) {
+    fn rings(&mut self, times: usize) {
         for at in 0..times {
             let slots = match at % 16 {
                 0 => MOST - self.random.below(3),
@@ -204,7 +204,7 @@ impl Run {
     }
 
     // Every size from none to past the most, for opening; every head and count beside a small size, for the other two.
-    pub fn ring_edges(&mut self) {
+    fn ring_edges(&mut self) {
         let all = vec![0x5A; RECORD * (MOST + 2)];
         for size in (0..200).chain(RECORD * MOST - 40..=RECORD * (MOST + 2)) {
             let mut h =
@@ -234,7 +234,7 @@ impl Run {
     }
 
     // The Rust package's ring beside the same queue.
-    pub fn package_rings(&mut self, times: usize) {
+    fn package_rings(&mut self, times: usize) {
         for _ in 0..times {
             let slots = 1 + self.random.below(9);
             let mut ring = drasumira::Ring::open(bytes(&mut self.random, RECORD * slots)).expect("a good size");
@@ -272,6 +272,12 @@ impl Run {
                 }
             }
         }
+    }
+
+    pub fn all_rings(&mut self) {
+        self.during("edges of rings", |run| run.ring_edges());
+        self.during("histories of rings", |run| run.rings(run.times(1_500, 30_000)));
+        self.during("the Rust package's rings", |run| run.package_rings(run.times(500, 10_000)));
     }
 
     fn package_score(&self, text: &str) -> drasumira::Score {

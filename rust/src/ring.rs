@@ -9,6 +9,7 @@ pub const MOST_RECORDS: usize = 2_048;
 
 /// What a [`Ring`] keeps of a line.
 #[derive(Clone, Copy, Debug, PartialEq)]
+#[non_exhaustive]
 pub struct Record {
     /// The number under which the line was put; numbers may repeat.
     pub line: u64,

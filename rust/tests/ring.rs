@@ -38,10 +38,11 @@ fn a_burst_through_few_slots() {
             for (line, record) in flushed.iter().enumerate() {
                 let line = line as u64;
                 let expected = match &told[line as usize % 3] {
-                    Ok(s) => Record { line: line << 32 | line, sum: s.sum, fed: s.fed, stopped: s.stopped, refusal: 0 },
-                    Err(r) => Record { line: line << 32 | line, sum: 0.0, fed: 0, stopped: false, refusal: r.number },
+                    Ok(s) => (s.sum, s.fed, s.stopped, 0),
+                    Err(r) => (0.0, 0, false, r.number),
                 };
-                assert_eq!(*record, expected);
+                assert_eq!((record.sum, record.fed, record.stopped, record.refusal), expected);
+                assert_eq!(record.line, line << 32 | line);
             }
         }
     }
