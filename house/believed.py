@@ -16,6 +16,7 @@ CALLS = {
     "md_chooser": ["choose", "verdict"],
     "cd": ["coherence_ratio", "coherence_ratio_default"],
     "cd_languages": ["check_languages", "check_included"],
+    "cd_merge": ["merge"],
     "ring": ["open_ring", "put_record", "flush_records"],
     "program": ["report"],
     "host": None,
@@ -28,6 +29,7 @@ STATEMENTS = [
     ("page", "RoundTrips", "read-after-write"),  # reading what was written gives the same text
     ("marked_cases", "Marked", "marked"),  # 01's cases (a) to (l)
     ("ring", "History", "history"),  # 02 [11]: the accepted puts of a history of calls are the flushed records and those in the ring
+    ("cd_merge", "Merge", "means-between"),  # 02 [14]: each mean, rounding included, lies between 0 and 1
 ]
 
 

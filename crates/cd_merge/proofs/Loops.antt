@@ -1,0 +1,5 @@
+pub mod Lengths
+pub mod Finding
+pub mod Summing
+pub mod Listing
+pub mod Writing

@@ -1,0 +1,4 @@
+pub mod Entries
+pub mod Merge
+pub mod Answer
+pub mod Inner
