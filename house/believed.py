@@ -9,6 +9,7 @@ import antt
 CALLS = {
     "classes": ["check_classes"],
     "utf8": ["read_utf8"],
+    "utf8_write": ["write_utf8"],
     "page": ["read_page", "write_page"],
     "md": ["mess_ratio", "mess_ratio_default"],
     "md_utf8": ["mess_ratio_utf8", "mess_ratio_utf8_default"],
@@ -25,6 +26,9 @@ CALLS = {
 STATEMENTS = [
     ("md", "DemandThree", "demand-three"),  # demand 3
     ("utf8", "Read", "accepted-encodes"),  # the reader's text is the one whose encoding the bytes are
+    ("utf8_write", "RoundTrips", "written-bytes"),  # the bytes written are the encodings of the text, one after the other
+    ("utf8_write", "RoundTrips", "written-read"),  # reading what was written gives the text
+    ("utf8_write", "RoundTrips", "read-written"),  # writing what was read gives the bytes
     ("page", "RoundTrips", "write-after-read"),  # writing what was read gives the same bytes
     ("page", "RoundTrips", "read-after-write"),  # reading what was written gives the same text
     ("marked_cases", "Marked", "marked"),  # 01's cases (a) to (l)

@@ -24,6 +24,10 @@ FAMILIES = {
     "clear": "all words or bytes made 0",
     "holds": "whether a number stands in a list, of u32 or of u16",
     "wide": "a byte or an entry of 16 bits as a u32",
+    "eight_ascii": "whether eight are ASCII, bytes that are read or code points that are written",
+    "past_eights": "past whole eights of ASCII, of the one or of the other",
+    "past_ones": "past single ones",
+    "past_ascii": "past a run of ASCII",
 }
 # what a program that replays a list does with a case
 REPLAYS = re.compile(r"same_\w+|sum_bits|replay_all")

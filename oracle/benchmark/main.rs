@@ -10,6 +10,7 @@ mod library;
 mod lines;
 mod pages;
 mod ring;
+mod writing;
 
 use library::Lent;
 use oracle::open::Opened;
@@ -44,6 +45,12 @@ fn noise(n: usize) -> String {
     (0..n).map(byte).collect()
 }
 
+// The sample of this name, so long.
+fn sample(name: &str, n: usize) -> String {
+    let sample = SAMPLES.iter().find(|s| s.0 == name).expect("a text's name").1;
+    if sample.is_empty() { noise(n) } else { repeated(sample, n) }
+}
+
 // Nanoseconds of processor time that this thread has had, which other work on the machine adds little to.
 fn now() -> f64 {
     const THREAD: i32 = 3; // CLOCK_THREAD_CPUTIME_ID of Linux
@@ -76,8 +83,7 @@ struct Subject {
 
 impl Subject {
     fn new(name: &str, n: usize) -> Subject {
-        let sample = SAMPLES.iter().find(|s| s.0 == name).expect("a text's name").1;
-        let text = if sample.is_empty() { noise(n) } else { repeated(sample, n) };
+        let text = sample(name, n);
         Subject { points: text.chars().map(|c| c as u32).collect(), burst: lines::Burst::new(&text), text }
     }
 
@@ -125,7 +131,7 @@ fn table(all: &Lent, none: &Lent) {
 fn main() {
     let words: Vec<String> = std::env::args().skip(1).collect();
     let words: Vec<&str> = words.iter().map(String::as_str).collect();
-    let usage = "usage: benchmark TABLES [ring | pages | coherence [SIDE NAME LENGTH CALLS] | SIDE NAME LENGTH all|none CALLS]";
+    let usage = "usage: benchmark TABLES [ring | pages | writing | coherence [SIDE NAME LENGTH CALLS] | SIDE NAME LENGTH all|none CALLS]";
     let dir = words.first().expect(usage);
     let file = |name: &str| std::fs::read(format!("{dir}/{name}.bin")).expect(name);
     let (classes, pairs) = (file("classes"), file("pairs"));
@@ -135,6 +141,7 @@ fn main() {
         ["coherence"] => coherence::table(&rankings),
         ["ring"] => ring::table(),
         ["pages"] => pages::table(dir),
+        ["writing"] => writing::table(),
         ["coherence", side, name, n, calls] => {
             coherence::calls(&rankings, side, name, n.parse().expect("a length"), calls.parse().expect("a number of calls"))
         }
@@ -147,6 +154,7 @@ fn main() {
         _ => {
             table(&all, &none);
             ring::table();
+            writing::table();
             println!();
             coherence::table(&rankings);
             println!();

@@ -152,6 +152,7 @@ unsafe extern "C" {
         pairs: *const u8,
         pairs_n: usize,
     ) -> HostChosen;
+    fn drasumira_write_utf8(text: *const u32, n: usize, out: *mut u8, room: usize) -> HostRead;
     fn drasumira_ring_open(ring: *const u8, n: usize) -> HostRing;
     fn drasumira_ring_put(
         ring: *mut u8,
@@ -205,6 +206,11 @@ pub fn read_page(page: &[u16], bytes: &[u8], out: &mut [u32]) -> HostRead {
 
 pub fn write_page(page: &[u16], text: &[u32], out: &mut [u8]) -> HostRead {
     unsafe { drasumira_write_page(page.as_ptr(), page.len(), text.as_ptr(), text.len(), out.as_mut_ptr(), out.len()) }
+}
+
+pub fn write_utf8(text: &[u32], out: &mut Guarded<u8>) -> HostRead {
+    let out = out.list_mut();
+    unsafe { drasumira_write_utf8(text.as_ptr(), text.len(), out.as_mut_ptr(), out.len()) }
 }
 
 // No threshold: the call for the default one.

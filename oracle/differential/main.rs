@@ -14,6 +14,7 @@ mod random;
 mod ring;
 mod tables;
 mod texts;
+mod writing;
 
 use aimed::{AIMS, Shelves};
 use library::{Guarded, HostChosen, HostScore, HostVerdict, Lent, text_of, walls};
@@ -559,7 +560,7 @@ impl Run {
         }
     }
 
-    // Bytes, class tables, causes of refusal, verdicts, many lines, and the Rust package's own part.
+    // Bytes, class tables, causes of refusal, verdicts, many lines, UTF-8 out, and the Rust package's own part.
     fn reading_and_choosing(&mut self, classes: &[u8], pairs: &[u8]) {
         let records = tables::records(classes);
         let (alphabet, shelves) = (&Alphabet::new(&records), &Shelves::new(&records, pairs));
@@ -574,6 +575,10 @@ impl Run {
         self.during("the Rust package's lines and choices", |run| run.package(alphabet, run.times(500, 10_000), classes, pairs));
         self.during("causes of many lines", |run| run.causes_of_bursts(run.times(2, 20), classes, pairs));
         self.during("many lines in one call", |run| run.bursts(alphabet, run.times(1_000, 20_000), classes, pairs));
+        self.during("every scalar value written", |run| run.every_scalar());
+        self.during("edges of writing", |run| run.writing_edges());
+        self.during("texts written and read", |run| run.random_writing(alphabet, run.times(2_000, 40_000)));
+        self.during("the Rust package's writing", |run| run.package_writing(alphabet, run.times(1_000, 20_000)));
     }
 }
 

@@ -38,6 +38,7 @@ HostRanking drasumira_coherence(const u32 *text, usize n, float threshold, u32 s
     const u32 *included, usize included_n, u32 *work, usize work_n, CoherenceMatch *matches, usize matches_n);
 HostRanking drasumira_coherence_default(const u32 *text, usize n, u32 small, TABLES, const u8 *languages, usize languages_n,
     const u32 *included, usize included_n, u32 *work, usize work_n, CoherenceMatch *matches, usize matches_n);
+HostRead drasumira_write_utf8(const u32 *text, usize n, u8 *out, usize room);
 HostRing drasumira_ring_open(const u8 *ring, usize n);
 HostRing drasumira_ring_put(u8 *ring, usize n, u32 head, u32 count, u64 line, u32 bits, u32 fed, u32 stopped, u32 refusal);
 HostRing drasumira_ring_flush(const u8 *ring, usize n, u32 head, u32 count, u32 most, u8 *out, usize room);
@@ -66,6 +67,7 @@ static void verdict(void) { drasumira_verdict(text, n, text, n, LENT); }
 static void choose(void) { drasumira_choose(text, n, text, n, LENT); }
 static void coherence(void) { drasumira_coherence(text, n, 0, 32, RANKING); }
 static void coherence_default(void) { drasumira_coherence_default(text, n, 32, RANKING); }
+static void write_utf8(void) { drasumira_write_utf8(text, n, flushed, LONGEST); }
 static void ring_open(void) { drasumira_ring_open(ring, LONGEST); }
 static void ring_put(void) { drasumira_ring_put(ring, LONGEST, 0, 0, n, 0, 1, 0, 0); }
 static void ring_flush(void) { drasumira_ring_flush(ring, LONGEST, 0, 1, 1, flushed, LONGEST); }
@@ -87,7 +89,7 @@ int main(void) {
         {"score_default", score_default, LONGEST}, {"score_utf8", score_utf8, LONGEST}, {"score_utf8_default", score_utf8_default, LONGEST},
         {"score_lines", score_lines, LONGEST}, {"verdict", verdict, LONGEST}, {"choose", choose, LONGEST},
         {"coherence", coherence, RANKED}, {"coherence_default", coherence_default, RANKED},
-        {"ring_open", ring_open, LONGEST}, {"ring_put", ring_put, LONGEST}, {"ring_flush", ring_flush, LONGEST},
+        {"write_utf8", write_utf8, LONGEST}, {"ring_open", ring_open, LONGEST}, {"ring_put", ring_put, LONGEST}, {"ring_flush", ring_flush, LONGEST},
     };
     static const usize lengths[] = {80, 256, 257, 4096, 4097, RANKED, LONGEST};
     for (usize i = 0; i < LONGEST; i++) text[i] = bytes[i] = 'a' + i * 7 % 26;

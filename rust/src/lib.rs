@@ -32,6 +32,7 @@ mod page;
 mod refusal;
 mod ring;
 mod text;
+mod writing;
 
 pub use chooser::{RefusedText, Which, choose, verdict};
 pub use coherence::{CoherenceMatch, Languages, TOO_SMALL_SEQUENCE, coherence, language_name};
@@ -39,6 +40,7 @@ pub use page::Page;
 pub use refusal::Refusal;
 pub use ring::{MOST_RECORDS, RECORD, Record, Ring};
 pub use text::{Part, Text};
+pub use writing::{to_string, write_utf8};
 
 /// A class table and a pair table. The class table is checked when this is made.
 #[derive(Clone, Debug)]

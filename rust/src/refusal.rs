@@ -40,6 +40,8 @@ impl Refusal {
     pub const BAD_PAGE: u32 = 10;
     /// A code page has no byte for a code point. The place is its index in the text.
     pub const NOT_ON_PAGE: u32 = 11;
+    /// A number that is no scalar value, in a text that is written as UTF-8. The place is its index. No `char` is refused so.
+    pub const NOT_SCALAR: u32 = 12;
     /// A ring that is not 1 to 2,048 records of 32 bytes, or whose head is not below its size or its count above it.
     pub const BAD_RING: u32 = 15;
     /// A ring that holds as many records as it has slots.
@@ -76,6 +78,7 @@ impl fmt::Display for Refusal {
             Refusal::BAD_PAGE if place == 0 => write!(f, "the code page is not good: its number of entries, or entry 0"),
             Refusal::BAD_PAGE => write!(f, "the code page is not good: entry {place}, counted from 0, is the first bad one"),
             Refusal::NOT_ON_PAGE => write!(f, "the code page has no byte for the code point at index {place}"),
+            Refusal::NOT_SCALAR => write!(f, "the number at index {place} of the text is no scalar value"),
             Refusal::BAD_RING => write!(f, "the ring is not 1 to 2,048 records of 32 bytes, or its head or its count is past its size"),
             Refusal::RING_FULL => write!(f, "the ring is full"),
             _ => write!(f, "place {place}"),

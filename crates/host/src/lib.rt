@@ -13,6 +13,7 @@ ghost use Rattle.md_chooser.specs.Choose.{chosen, verdictOf};
 ghost use Rattle.cd.specs.Causes.{causes, causesDefault};
 ghost use Rattle.cd.specs.Coherence.{DEFAULT-THRESHOLD, matchesOf, workAfter};
 ghost use Rattle.ring.specs.Calls as rings;
+ghost use Rattle.utf8_write.specs.Answer as writing;
 ghost use Rattle.host.specs.Chosen.{hostChosen};
 ghost use Rattle.host.specs.Host.{hostCounted, hostScore, hostVerdict, hostRing};
 ghost use Rattle.host.specs.Matches.{hostRanking};
@@ -305,4 +306,13 @@ pub extern "C" fn drasumira_ring_flush(
     ensures { λ _. ⌜ now (out .exit) ≡ rings.outAfter (now (ring .entry)) head count most (now (out .entry)) ⌝ }
 {
     flat_ringed(ring::flush_records(ring, head, count, most, out))
+}
+
+// A text as UTF-8, into the first places of out.
+#[no_mangle]
+pub extern "C" fn drasumira_write_utf8(text: &[u32], out: &mut [u8]) -> HostRead
+    ensures { λ r. ⌜ r ≡ hostCounted (writing.answer (now (text .entry)) (length (now (out .entry)))) ⌝ }
+    ensures { λ _. ⌜ now (out .exit) ≡ writing.outAfter (now (text .entry)) (now (out .entry)) ⌝ }
+{
+    flat_counted(utf8_write::write_utf8(text, out))
 }

@@ -1,0 +1,4 @@
+pub mod Answer
+pub mod Encoded
+pub mod RoundTrips
+pub mod Sequence

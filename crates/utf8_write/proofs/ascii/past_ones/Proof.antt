@@ -1,0 +1,41 @@
+-- The code points passed are ASCII: each turn adds one that was tested. Assumes nothing.
+use Prim.Native.Nat.{_-_}
+use lib.ListN.{length}
+use borrow.Author.Needs.{needs}
+use Rattle.utf8.specs.Inner.Ascii.{AsciiRun}
+use Rattle.utf8.proofs.Laws.Ascii.{run-none, run-more}
+use Rattle.utf8_write.proofs.ascii.past_ones.Statement.{statement}
+use Rattle.utf8_write.proofs.ascii.past_ones.Tie as tie
+
+abbrev Inv-loop : tie.InvT-loop
+Inv-loop b i j₀ j = AsciiRun b i j
+
+abbrev μ-loop : tie.MeasureT-loop
+μ-loop b i j₀ j = length b - j
+
+loop-holds : tie.Need-loop-holds Inv-loop μ-loop
+loop-holds c = run-none _ _ (c .pre)
+
+returns : tie.Need-returns Inv-loop μ-loop
+returns c = c .before .before .before .loop .inv
+
+loop-again : tie.Need-loop-again Inv-loop μ-loop
+loop-again c = run-more _ _ _ (c .before .before .before .loop .inv) (c .before .before .loop-test .taken) (c .if1 .left)
+
+returns-2 : tie.Need-returns-2 Inv-loop μ-loop
+returns-2 c = c .before .loop .inv
+
+pub past-ones-spec : {M : Type 1} → statement M
+past-ones-spec =
+    tie.close
+    (tie.spec
+    Inv-loop
+    μ-loop
+    loop-holds
+    (λ c. search needs)
+    (λ c. search needs)
+    returns
+    (λ c. search needs)
+    (λ c. search needs)
+    loop-again
+    returns-2)

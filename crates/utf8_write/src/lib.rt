@@ -1,0 +1,82 @@
+// Code points written as UTF-8, in the shortest form, by the Unicode Standard. Everything is checked and counted before anything is written, so that
+// a refusal leaves the lent output alone; runs of ASCII are passed eight at a time and written in bulk.
+mod ascii;
+mod check;
+mod sequence;
+
+use ascii::narrow;
+use ascii::past_ascii;
+use base::Counted;
+use base::limits::LONGEST_TEXT;
+use base::not_counted;
+use base::refusals::NO_ROOM;
+use base::refusals::TOO_LONG;
+use check::all_scalar;
+use check::first_ill;
+use check::needed;
+use sequence::four_into;
+use sequence::as_byte;
+use sequence::three_into;
+use sequence::two_into;
+ghost use mathlib.Core.Bool.{true};
+ghost use mathlib.Core.Path.{_≡_};
+ghost use Prim.Native.Nat.{_≤_};
+ghost use lib.ListN.{length};
+ghost use Rattle.base.specs.Put.{put};
+ghost use Rattle.utf8_table.specs.Encoding.{encodeAll, scalars};
+ghost use Rattle.utf8_write.specs.Answer.{answer, outAfter};
+
+// a number that is no scalar value; place its index in the text
+pub const NOT_SCALAR: u32 = 12;
+
+// The encodings of scalar values, one after the other, into the first places of an output that has room.
+fn encode_into(text: &[u32], out: &mut [u8])
+    requires { ⌜ (scalars (now text) ≡ true) × (length (encodeAll (now text)) ≤ length (now out)) ⌝ }
+    ensures { λ _. ⌜ now (out .exit) ≡ put (now (out .entry)) 0 (encodeAll (now (text .entry))) ⌝ }
+{
+    let mut from = 0;
+    let mut to = 0;
+    while from < text.len() {
+        let c = text[from];
+        if c < 0x80 {
+            out[to] = as_byte(c);
+            from += 1;
+            to += 1;
+            let next = past_ascii(text, from);
+            narrow(&text[from..next], out, to);
+            to += next - from;
+            from = next;
+        } else if c < 0x800 {
+            two_into(out, to, c);
+            from += 1;
+            to += 2;
+        } else if c < 0x10000 {
+            three_into(out, to, c);
+            from += 1;
+            to += 3;
+        } else {
+            four_into(out, to, c);
+            from += 1;
+            to += 4;
+        }
+    }
+}
+
+// A text as UTF-8, written into the first places of out; the rest of out stays, and all of it in a refusal.
+pub fn write_utf8(text: &[u32], out: &mut [u8]) -> Counted
+    ensures { λ r. ⌜ r ≡ answer (now (text .entry)) (length (now (out .entry))) ⌝ }
+    ensures { λ _. ⌜ now (out .exit) ≡ outAfter (now (text .entry)) (now (out .entry)) ⌝ }
+{
+    if LONGEST_TEXT < text.len() {
+        return not_counted(TOO_LONG, 0);
+    }
+    if !all_scalar(text) {
+        return not_counted(NOT_SCALAR, first_ill(text) as u32);
+    }
+    let count = needed(text);
+    if out.len() < count as usize {
+        return not_counted(NO_ROOM, 0);
+    }
+    encode_into(text, out);
+    Counted::Count(count)
+}
