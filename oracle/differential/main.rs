@@ -560,7 +560,7 @@ impl Run {
         }
     }
 
-    // Bytes, class tables, causes of refusal, verdicts, many lines, UTF-8 out, and the Rust package's own part.
+    // Bytes, class tables, causes of refusal, verdicts, many lines, and the Rust package's own part.
     fn reading_and_choosing(&mut self, classes: &[u8], pairs: &[u8]) {
         let records = tables::records(classes);
         let (alphabet, shelves) = (&Alphabet::new(&records), &Shelves::new(&records, pairs));
@@ -575,10 +575,6 @@ impl Run {
         self.during("the Rust package's lines and choices", |run| run.package(alphabet, run.times(500, 10_000), classes, pairs));
         self.during("causes of many lines", |run| run.causes_of_bursts(run.times(2, 20), classes, pairs));
         self.during("many lines in one call", |run| run.bursts(alphabet, run.times(1_000, 20_000), classes, pairs));
-        self.during("every scalar value written", |run| run.every_scalar());
-        self.during("edges of writing", |run| run.writing_edges());
-        self.during("texts written and read", |run| run.random_writing(alphabet, run.times(2_000, 40_000)));
-        self.during("the Rust package's writing", |run| run.package_writing(alphabet, run.times(1_000, 20_000)));
     }
 }
 
@@ -591,7 +587,9 @@ fn main() {
             (how == "full", survey, dir, more.first().map_or(SEED, |seed| number(seed)), more.get(1).copied())
         }
         _ => {
-            eprintln!("usage: differential quick|full|survey-once|survey-twice TABLES [SEED [scoring|reading|pages|coherence|rings]]");
+            eprintln!(
+                "usage: differential quick|full|survey-once|survey-twice TABLES [SEED [scoring|reading|pages|writing|coherence|rings]]"
+            );
             std::process::exit(2)
         }
     };
@@ -616,12 +614,15 @@ fn main() {
     let started = Instant::now();
     walls::watch();
     eprintln!("seed {seed}, over {}", env!("LIBRARY"));
-    for name in ["scoring", "reading", "pages", "coherence", "rings"].into_iter().filter(|name| part.is_none_or(|part| part == *name)) {
+    for name in
+        ["scoring", "reading", "pages", "writing", "coherence", "rings"].into_iter().filter(|name| part.is_none_or(|part| part == *name))
+    {
         run.part = name;
         match name {
             "scoring" => run.scoring(&classes, &pairs, &languages),
             "reading" => run.reading_and_choosing(&classes, &pairs),
             "pages" => run.code_pages(dir),
+            "writing" => run.all_writing(&classes),
             "coherence" => run.coherence(&classes, &pairs, &languages),
             _ => run.all_rings(),
         }

@@ -3,7 +3,7 @@
 // std and the library's own reader give the text back.
 use crate::library::{self, BYTE, Guarded, HostRead, WORD, text_of};
 use crate::texts::Alphabet;
-use crate::{LONGEST_TEXT, Run, chars, hex, smallest};
+use crate::{LONGEST_TEXT, Run, chars, hex, smallest, tables};
 
 const LAST: u32 = 0x10FFFF;
 const PART: usize = 65_536; // scalar values in one call
@@ -47,7 +47,7 @@ fn expected(text: &[u32], before: &[u8]) -> (HostRead, Vec<u8>) {
     if let Some(at) = text.iter().position(|p| char::from_u32(*p).is_none()) {
         return refused(12, at as u32);
     }
-    let bytes: String = chars(text).into_iter().collect();
+    let bytes: String = text.iter().filter_map(|p| char::from_u32(*p)).collect();
     if bytes.len() > before.len() {
         return refused(3, 0);
     }
@@ -61,6 +61,14 @@ fn bytes_of(text: &[u32]) -> usize {
 }
 
 impl Run {
+    pub fn all_writing(&mut self, classes: &[u8]) {
+        let alphabet = &Alphabet::new(&tables::records(classes));
+        self.during("every scalar value written", |run| run.every_scalar());
+        self.during("edges of writing", |run| run.writing_edges());
+        self.during("texts written and read", |run| run.random_writing(alphabet, run.times(2_000, 40_000)));
+        self.during("the Rust package's writing", |run| run.package_writing(alphabet, run.times(1_000, 20_000)));
+    }
+
     fn written(&mut self, text: &[u32], room: usize) {
         self.counted();
         let before: Vec<u8> = (0..room).map(|_| self.random.next() as u8).collect();
@@ -98,7 +106,7 @@ impl Run {
     }
 
     // Every scalar value: alone, and all in a row; and every number just outside.
-    pub fn every_scalar(&mut self) {
+    fn every_scalar(&mut self) {
         let all: Vec<u32> = (0..=LAST).filter(|p| char::from_u32(*p).is_some()).collect();
         assert_eq!(all.len(), 1_112_064);
         for part in all.chunks(PART) {
@@ -128,7 +136,7 @@ impl Run {
     }
 
     // The edges of each row, at each place of short texts, with every room from none to one more than enough.
-    pub fn writing_edges(&mut self) {
+    fn writing_edges(&mut self) {
         for a in EDGES {
             for b in EDGES {
                 for text in [vec![], vec![a], vec![a, b], vec![0x61, a, b], vec![a, 0x61, 0x62, b], vec![b, 0x7A, a, a]] {
@@ -164,7 +172,7 @@ impl Run {
     }
 
     // Texts of every script, some with a number that is no scalar value; and bytes that are read and written again.
-    pub fn random_writing(&mut self, alphabet: &Alphabet, times: usize) {
+    fn random_writing(&mut self, alphabet: &Alphabet, times: usize) {
         for _ in 0..times {
             let n = crate::texts::length(&mut self.random);
             let mut text = alphabet.text(&mut self.random, n);
@@ -196,7 +204,7 @@ impl Run {
     }
 
     // The Rust package: write_utf8 over chars, and a String of a text, held to std.
-    pub fn package_writing(&mut self, alphabet: &Alphabet, times: usize) {
+    fn package_writing(&mut self, alphabet: &Alphabet, times: usize) {
         for _ in 0..times {
             self.counted();
             let n = crate::texts::length(&mut self.random);
