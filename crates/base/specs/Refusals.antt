@@ -41,3 +41,28 @@ BAD-LANGUAGES = 8
 -- over MOST-INCLUDED included numbers, place 0, or one not in the table, place its index
 abbrev pub BAD-INCLUDED : ℕ
 BAD-INCLUDED = 9
+
+-- the numbers from 10 on are document 02's
+-- code page not good; place its first bad entry, or 0 if it has not 128
+abbrev pub BAD-PAGE : ℕ
+BAD-PAGE = 10
+
+-- code point that the page lacks; place its index in the text
+abbrev pub NOT-ON-PAGE : ℕ
+NOT-ON-PAGE = 11
+
+-- number that is no scalar value; place its index in the text
+abbrev pub NOT-SCALAR : ℕ
+NOT-SCALAR = 12
+
+-- ring of a wrong size, a head not below it or a count above it; place 0
+abbrev pub BAD-RING : ℕ
+BAD-RING = 15
+
+-- ring that holds as many unflushed records as it has slots; place 0
+abbrev pub RING-FULL : ℕ
+RING-FULL = 16
+
+-- lengths of rankings that do not fit their list; place 0
+abbrev pub BAD-LENGTHS : ℕ
+BAD-LENGTHS = 18

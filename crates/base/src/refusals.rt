@@ -29,3 +29,23 @@ pub const BAD_LANGUAGES: u32 = 8;
 
 // over MOST_INCLUDED included numbers, place 0, or one not in the table, place its index
 pub const BAD_INCLUDED: u32 = 9;
+
+// The numbers from 10 on are document 02's.
+
+// code page not good; place its first bad entry, or 0 if it has not 128
+pub const BAD_PAGE: u32 = 10;
+
+// code point that the page lacks; place its index in the text
+pub const NOT_ON_PAGE: u32 = 11;
+
+// number that is no scalar value; place its index in the text
+pub const NOT_SCALAR: u32 = 12;
+
+// ring of a wrong size, a head not below it or a count above it; place 0
+pub const BAD_RING: u32 = 15;
+
+// ring that holds as many unflushed records as it has slots; place 0
+pub const RING_FULL: u32 = 16;
+
+// lengths of rankings that do not fit their list; place 0
+pub const BAD_LENGTHS: u32 = 18;

@@ -13,14 +13,10 @@ use Rattle.base.specs.declared.Counted.{Counted}
 use Rattle.base.specs.Causes.{given, firstOf}
 use Rattle.base.specs.Counted.{countUnless, lentAfter}
 use Rattle.base.specs.First.{first}
-use Rattle.base.specs.Refusals.{NO-ROOM, NOT-FINITE}
+use Rattle.base.specs.Refusals.{NO-ROOM, NOT-FINITE, BAD-LENGTHS}
 use Rattle.ratio.specs.Rounded.{ZERO}
 use Rattle.cd_merge.specs.Entries.{entriesIn, entries, scoreAt}
 use Rattle.cd_merge.specs.Merge.{firsts, merged, mergedWords}
-
--- the refusal number that 02 [14] adds
-abbrev pub BAD-LENGTHS : ℕ
-BAD-LENGTHS = 18
 
 -- "up to 64 earlier rankings"
 abbrev pub MOST-RANKINGS : ℕ

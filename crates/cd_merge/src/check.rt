@@ -15,6 +15,7 @@ const LONGEST_RANKING: u32 = 63;
 
 // the bits of +infinity, and the bit of a minus sign
 const INFINITY_BITS: u32 = 0x7F80_0000;
+
 const SIGN_BIT: u32 = 0x8000_0000;
 
 // How many entries a list has.

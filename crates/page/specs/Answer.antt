@@ -11,15 +11,8 @@ use Rattle.base.specs.declared.Counted.{Counted}
 use Rattle.base.specs.Causes.{given, firstOf}
 use Rattle.base.specs.Counted.{countUnless, lentAfter}
 use Rattle.base.specs.Limits.{LONGEST-TEXT}
-use Rattle.base.specs.Refusals.{TOO-LONG, ILL-FORMED, NO-ROOM}
+use Rattle.base.specs.Refusals.{TOO-LONG, ILL-FORMED, NO-ROOM, BAD-PAGE, NOT-ON-PAGE}
 use Rattle.page.specs.Page.{PAGE-ENTRIES, firstBad, unusedAt, lackingAt, pointsOf, bytesOf}
-
--- the two refusal numbers that 02 [1] adds
-abbrev pub BAD-PAGE : ℕ
-BAD-PAGE = 10
-
-abbrev pub NOT-ON-PAGE : ℕ
-NOT-ON-PAGE = 11
 
 -- 1: "over 65,536 bytes or code points"
 unfoldable pub tooLong : List ℕ → Cause

@@ -2,6 +2,7 @@
 use base::Cause;
 use base::limits::SURROGATE_FIRST;
 use base::limits::SURROGATE_LAST;
+use base::refusals::BAD_PAGE;
 use base::refuse;
 ghost use mathlib.Core.Bool.{false};
 ghost use mathlib.Core.Path.{_≡_};
@@ -11,9 +12,6 @@ ghost use Rattle.base.specs.Among.{among};
 ghost use Rattle.page.specs.Answer.{badPage};
 ghost use Rattle.page.specs.Page.{badEntry, firstBad, PAGE-ENTRIES};
 ghost use Rattle.page.specs.Inner.Marks.{MARKS};
-
-// a page that is not good; place its first bad entry, or 0 if it has not 128
-pub const BAD_PAGE: u32 = 10;
 
 // entries of a page
 pub const PAGE_ENTRIES: usize = 128;

@@ -10,6 +10,7 @@ use base::limits::LONGEST_TEXT;
 use base::not_counted;
 use base::refusals::ILL_FORMED;
 use base::refusals::NO_ROOM;
+use base::refusals::NOT_ON_PAGE;
 use base::refusals::TOO_LONG;
 use check::bad_page;
 use inverse::POINTS;
@@ -26,9 +27,6 @@ ghost use lib.ListN.{length};
 ghost use Rattle.base.specs.Limits.{LONGEST-TEXT};
 ghost use Rattle.page.specs.Answer.{readAnswer, readInto, writeAnswer, writeInto};
 ghost use Rattle.page.specs.Inner.Good.{Good};
-
-// a code point that the page lacks; place its index in the text
-pub const NOT_ON_PAGE: u32 = 11;
 
 // Reads under a good page. The code points of all 256 bytes are laid out once, so that each byte is one look into them.
 fn read_good(page: &[u16], bytes: &[u8], out: &mut [u32]) -> Counted

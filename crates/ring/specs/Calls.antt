@@ -13,20 +13,12 @@ use Rattle.base.specs.declared.Cause.the-variants.{Allowed, Refused}
 use Rattle.base.specs.Causes.{given, firstOf}
 use Rattle.base.specs.Counted.{lentAfter}
 use Rattle.base.specs.Put.{put}
-use Rattle.base.specs.Refusals.{ACCEPTED, NO-ROOM}
+use Rattle.base.specs.Refusals.{ACCEPTED, NO-ROOM, BAD-RING, RING-FULL}
 use Rattle.ring.specs.declared.Ringed.{Ringed}
 use Rattle.ring.specs.declared.Ringed.the-variants.{Kept as Keep, Refused as NotKept}
 use Rattle.ring.specs.declared.Verdict.{Verdict}
 use Rattle.ring.specs.Record.{RECORD, recordOf}
 use Rattle.ring.specs.Ring.{slots, wrongSize, wrongRing, recordsFrom}
-
--- a wrong size, a head not below it or a count above it; place 0
-abbrev pub BAD-RING : ℕ
-BAD-RING = 15
-
--- the ring holds as many unflushed records as it has slots; place 0
-abbrev pub RING-FULL : ℕ
-RING-FULL = 16
 
 -- head and count where no cause is there, else the refusal
 unfoldable pub keptUnless : Cause → ℕ → ℕ → Ringed

@@ -6,7 +6,9 @@ ghost use Rattle.base.specs.declared.Cause.the-variants.{Allowed};
 ghost use Rattle.base.specs.Causes.{refusedAt};
 ghost use Rattle.ring.specs.Calls as calls;
 use base::Refusal;
+use base::refusals::BAD_RING;
 use base::refusals::NO_ROOM;
+use base::refusals::RING_FULL;
 use copy::copy_records;
 use copy::put_bytes;
 use record::record_of;
@@ -24,12 +26,6 @@ pub const RECORD: usize = 32;
 
 // The most records of a ring.
 pub const MOST_SLOTS: usize = 2048;
-
-// A wrong size, a head not below it or a count above it; place 0.
-pub const BAD_RING: u32 = 15;
-
-// The ring holds as many unflushed records as it has slots; place 0.
-pub const RING_FULL: u32 = 16;
 
 // What a record tells of a line: its number, and its score's bits, the characters fed, the mark of having stopped and a refusal's number. They are
 // stored as they are given.

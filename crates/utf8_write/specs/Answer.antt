@@ -12,13 +12,9 @@ use Rattle.base.specs.Causes.{given, firstOf}
 use Rattle.base.specs.Counted.{countUnless, lentAfter}
 use Rattle.base.specs.First.{first}
 use Rattle.base.specs.Limits.{LONGEST-TEXT}
-use Rattle.base.specs.Refusals.{TOO-LONG, NO-ROOM}
+use Rattle.base.specs.Refusals.{TOO-LONG, NO-ROOM, NOT-SCALAR}
 use Rattle.base.specs.Tests.{scalar}
 use Rattle.utf8_table.specs.Encoding.{encodeAll}
-
--- the refusal number that 02 [3] adds
-abbrev pub NOT-SCALAR : ℕ
-NOT-SCALAR = 12
 
 -- "a number that is no scalar value, at its index"; the number of code points where there is none
 unfoldable pub illAt : List ℕ → ℕ

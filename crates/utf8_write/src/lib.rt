@@ -10,12 +10,13 @@ use base::Counted;
 use base::limits::LONGEST_TEXT;
 use base::not_counted;
 use base::refusals::NO_ROOM;
+use base::refusals::NOT_SCALAR;
 use base::refusals::TOO_LONG;
 use check::all_scalar;
 use check::first_ill;
 use check::needed;
-use sequence::four_into;
 use sequence::as_byte;
+use sequence::four_into;
 use sequence::three_into;
 use sequence::two_into;
 ghost use mathlib.Core.Bool.{true};
@@ -25,9 +26,6 @@ ghost use lib.ListN.{length};
 ghost use Rattle.base.specs.Put.{put};
 ghost use Rattle.utf8_table.specs.Encoding.{encodeAll, scalars};
 ghost use Rattle.utf8_write.specs.Answer.{answer, outAfter};
-
-// a number that is no scalar value; place its index in the text
-pub const NOT_SCALAR: u32 = 12;
 
 // The encodings of scalar values, one after the other, into the first places of an output that has room.
 fn encode_into(text: &[u32], out: &mut [u8])

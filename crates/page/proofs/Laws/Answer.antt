@@ -18,12 +18,12 @@ use Rattle.base.specs.Causes.{refusedAt, given, firstOf}
 use Rattle.base.specs.Counted.{countUnless, lentAfter}
 use Rattle.base.specs.Limits.{LONGEST-TEXT}
 use Rattle.base.specs.Put.{put}
-use Rattle.base.specs.Refusals.{TOO-LONG, ILL-FORMED, NO-ROOM}
+use Rattle.base.specs.Refusals.{TOO-LONG, ILL-FORMED, NO-ROOM, BAD-PAGE, NOT-ON-PAGE}
 use Rattle.base.proofs.Laws.Causes.{given-yes, free-given, given-free, first-refused, first-on, first-given, first-passed, first-free, free-first}
 use Rattle.base.proofs.Laws.Counted.{counted-allowed, counted-refused, counted-at, after-allowed, after-refused}
 use Rattle.base.proofs.Laws.First.{first-within}
 use Rattle.page.specs.Page.{PAGE-ENTRIES, badEntry, firstBad, unusedAt, lackingAt, pointsOf, bytesOf}
-use Rattle.page.specs.Answer.{BAD-PAGE, NOT-ON-PAGE, tooLong, badPage, unusedByte, notOnPage, noRoom, readCauses, readAnswer, readInto, writeCauses, writeAnswer, writeInto}
+use Rattle.page.specs.Answer.{tooLong, badPage, unusedByte, notOnPage, noRoom, readCauses, readAnswer, readInto, writeCauses, writeAnswer, writeInto}
 use Rattle.page.specs.Inner.Good.{Good}
 
 -- ---- the check of a page

@@ -21,13 +21,13 @@ use Rattle.base.specs.Causes.{given, firstOf}
 use Rattle.base.specs.Counted.{countUnless}
 use Rattle.base.specs.Limits.{LONGEST-TEXT}
 use Rattle.base.specs.Put.{put}
-use Rattle.base.specs.Refusals.{TOO-LONG, ILL-FORMED, NO-ROOM}
+use Rattle.base.specs.Refusals.{TOO-LONG, ILL-FORMED, NO-ROOM, NOT-ON-PAGE}
 use Rattle.base.proofs.Laws.Causes.{given-free, first-free, free-given, free-first}
 use Rattle.base.proofs.Laws.Counted.{counted-allowed, count-allowed, count-is, after-allowed}
 use Rattle.base.proofs.Laws.First.{first-before, first-none}
 use Rattle.base.proofs.Laws.Put.{put-first}
 use Rattle.page.specs.Page.{UNUSED, pointOf, byteOf, lacks, unusedAt, lackingAt, pointsOf, bytesOf}
-use Rattle.page.specs.Answer.{NOT-ON-PAGE, tooLong, badPage, unusedByte, notOnPage, noRoom, readCauses, readAnswer, readInto, writeCauses, writeAnswer, writeInto}
+use Rattle.page.specs.Answer.{tooLong, badPage, unusedByte, notOnPage, noRoom, readCauses, readAnswer, readInto, writeCauses, writeAnswer, writeInto}
 use Rattle.page.specs.RoundTrips.{Back}
 use Rattle.page.specs.Inner.Good.{Good}
 use Rattle.page.proofs.Laws.Lists.{length-map, getD-map, map-back}

@@ -10,14 +10,14 @@ use Rattle.base.specs.declared.Cause.{Cause}
 use Rattle.base.specs.declared.Cause.the-variants.{Allowed}
 use Rattle.base.specs.Causes.{refusedAt, firstOf}
 use Rattle.base.specs.Put.{put}
-use Rattle.base.specs.Refusals.{NO-ROOM}
+use Rattle.base.specs.Refusals.{NO-ROOM, BAD-RING, RING-FULL}
 use Rattle.base.proofs.Laws.Causes.{given-yes, free-given, first-given, first-passed}
 use Rattle.base.proofs.Laws.Counted.{after-allowed, after-refused}
 use Rattle.ring.specs.declared.Ringed.{Ringed}
 use Rattle.ring.specs.declared.Verdict.{Verdict}
 use Rattle.ring.specs.Record.{RECORD, recordOf}
 use Rattle.ring.specs.Ring.{slots, wrongSize, wrongRing, recordsFrom}
-use Rattle.ring.specs.Calls.{BAD-RING, RING-FULL, keptUnless, openAnswer, badRing, full, putCauses, putAnswer, ringUnless, ringAfter}
+use Rattle.ring.specs.Calls.{keptUnless, openAnswer, badRing, full, putCauses, putAnswer, ringUnless, ringAfter}
 use Rattle.ring.specs.Calls.{noRoom, flushCauses, flushAnswer, outAfter}
 
 -- a refusal is the same whatever was to be kept

@@ -15,7 +15,7 @@ use borrow.Author.Tests.{eqb-true, eqb-false}
 use Rattle.base.specs.declared.Cause.the-variants.{Allowed}
 use Rattle.base.specs.Causes.{refusedAt}
 use Rattle.base.specs.Put.{put}
-use Rattle.base.specs.Refusals.{NO-ROOM}
+use Rattle.base.specs.Refusals.{NO-ROOM, BAD-RING, RING-FULL}
 use Rattle.base.proofs.Laws.Put.{put-first}
 use Rattle.base.proofs.Laws.Tests.{by-bool, split}
 use Rattle.ring.specs.declared.Kept.{Kept}
@@ -25,7 +25,7 @@ use Rattle.ring.specs.declared.Verdict.{Verdict}
 use Rattle.ring.specs.Record.{RECORD, recordOf}
 use Rattle.ring.specs.Ring.{slots, slot, wrongSize, wrongRing, recordsFrom}
 use Rattle.ring.specs.Inner.Ring.{GoodSize, GoodRing}
-use Rattle.ring.specs.Calls.{BAD-RING, RING-FULL, keptUnless, openAnswer, putAnswer, ringAfter, flushAnswer, outAfter}
+use Rattle.ring.specs.Calls.{keptUnless, openAnswer, putAnswer, ringAfter, flushAnswer, outAfter}
 use Rattle.ring.specs.History.{State, Event, Put, Flush, keeping, next, Answered, History, lastly, opened}
 use Rattle.ring.specs.History.{putIn, puts, firstRecords, cameOut, flushed, inRing}
 use Rattle.ring.proofs.Laws.Calls.{open-refused, open-kept, put-full, put-kept, flush-room, flush-kept}

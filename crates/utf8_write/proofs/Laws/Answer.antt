@@ -15,11 +15,11 @@ use Rattle.base.specs.Causes.{refusedAt, given, firstOf}
 use Rattle.base.specs.Counted.{countUnless}
 use Rattle.base.specs.Limits.{LONGEST-TEXT}
 use Rattle.base.specs.Put.{put}
-use Rattle.base.specs.Refusals.{TOO-LONG, NO-ROOM}
+use Rattle.base.specs.Refusals.{TOO-LONG, NO-ROOM, NOT-SCALAR}
 use Rattle.base.proofs.Laws.Causes.{first-given, first-passed, first-free, given-free}
 use Rattle.base.proofs.Laws.Counted.{counted-allowed, counted-at, count-allowed, count-is, after-allowed, after-refused}
 use Rattle.utf8_table.specs.Encoding.{encodeAll, scalars}
-use Rattle.utf8_write.specs.Answer.{NOT-SCALAR, illAt, tooLong, notScalar, noRoom, causes, answer, outAfter}
+use Rattle.utf8_write.specs.Answer.{illAt, tooLong, notScalar, noRoom, causes, answer, outAfter}
 use Rattle.utf8_write.proofs.Laws.Encoded.{none-ill, all-good, some-ill}
 
 -- the answer is a, and the output is left as new

@@ -86,5 +86,5 @@ pub encoded-run : (text : List ℕ) (i j : ℕ) → AsciiRun text i j → encode
 encoded-run text i j r =
     let e : i + (j - i) ≡ j = omega (arith, r .here) in
     let a = ascii-encoded (j - i) (drop i text) (omega (arith, length-drop i text, r .inside))
-            (λ m h. rw (getD-drop i text m 0) (r .ascii (i + m) (omega arith) (omega arith))) in
+    (λ m h. rw (getD-drop i text m 0) (r .ascii (i + m) (omega arith) (omega arith))) in
     a ∙ ap (λ (z : List ℕ). take (j - i) (drop i text) ++ encodeAll z) (drop-drop (j - i) i text ∙ ap (λ (k : ℕ). drop k text) e)

@@ -35,9 +35,10 @@ loop-again c =
     let scored = c .before in
     let tested = scored .before .before in
     let walk = tested .before in
-    let sized = walk .before in
-    (omega (arith, sized .entries .ensures, tested .loop-test .taken),
-    sym (first-miss _ _ _ (rw (sized .entries .ensures) at (tested .loop-test .taken)) (ap not (sym (scored .is-score .ensures)) ∙ c .if1 .left)) ∙ walk .loop .inv .1)
+    let sized = walk .before in (
+      omega (arith, sized .entries .ensures, tested .loop-test .taken),
+      sym (first-miss _ _ _ (rw (sized .entries .ensures) at (tested .loop-test .taken)) (ap not (sym (scored .is-score .ensures)) ∙ c .if1 .left)) ∙ walk .loop .inv .1,
+    )
 
 returns-2 : tie.Need-returns-2 Inv-loop μ-loop
 returns-2 c =

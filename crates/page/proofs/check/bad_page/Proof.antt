@@ -2,7 +2,7 @@
 use mathlib.Core.Path.{sym, ap, _∙_}
 use borrow.Author.Needs.{needs}
 use Rattle.base.specs.Causes.{refusedAt}
-use Rattle.page.specs.Answer.{BAD-PAGE}
+use Rattle.base.specs.Refusals.{BAD-PAGE}
 use Rattle.page.proofs.Laws.Answer.{size-refused, entry-refused, none-refused}
 use Rattle.page.proofs.check.bad_page.Statement.{statement}
 use Rattle.page.proofs.check.bad_page.Tie as tie
