@@ -2,6 +2,7 @@
 ghost use mathlib.Core.Path.{_≡_};
 ghost use Rattle.host.specs.Chosen.{hostChosen};
 ghost use Rattle.host.specs.Host.{hostCounted, hostScore, hostVerdict, hostRing};
+ghost use Rattle.host.specs.Matches.{hostMerged};
 use crate::HostChosen;
 use crate::HostRead;
 use crate::HostRing;
@@ -10,6 +11,7 @@ use crate::HostVerdict;
 use base::Counted;
 use base::one;
 use base::refusals::ACCEPTED;
+use cd_list::HostRanking;
 use md::Scored;
 use md_chooser::Judged;
 use md_chooser::Part;
@@ -118,6 +120,23 @@ pub fn flat_ringed(ringed: Ringed) -> HostRing
             place: 0,
             head: kept.head,
             count: kept.count,
+        },
+    }
+}
+
+pub fn flat_merged(counted: Counted) -> HostRanking
+    ensures { λ r. ⌜ r ≡ hostMerged counted ⌝ }
+{
+    match counted {
+        Counted::Refused(r) => HostRanking {
+            number: r.number,
+            place: r.place,
+            count: 0,
+        },
+        Counted::Count(count) => HostRanking {
+            number: ACCEPTED,
+            place: 0,
+            count,
         },
     }
 }

@@ -12,16 +12,18 @@ ghost use Rattle.md_lines.specs.Burst as bursts;
 ghost use Rattle.md_chooser.specs.Choose.{chosen, verdictOf};
 ghost use Rattle.cd.specs.Causes.{causes, causesDefault};
 ghost use Rattle.cd.specs.Coherence.{DEFAULT-THRESHOLD, matchesOf, workAfter};
+ghost use Rattle.cd_merge.specs.Answer.{mergeAnswer, mergeInto};
 ghost use Rattle.ring.specs.Calls as rings;
 ghost use Rattle.utf8_write.specs.Answer as writing;
 ghost use Rattle.host.specs.Chosen.{hostChosen};
 ghost use Rattle.host.specs.Host.{hostCounted, hostScore, hostVerdict, hostRing};
-ghost use Rattle.host.specs.Matches.{hostRanking};
+ghost use Rattle.host.specs.Matches.{hostRanking, hostMerged};
 use cd_list::HostRanking;
 use cd_ranking::CoherenceMatch;
 use flat::flat_chosen;
 use flat::flat_counted;
 use flat::flat_judged;
+use flat::flat_merged;
 use flat::flat_ringed;
 use flat::flat_scored;
 use ratio::Ratios;
@@ -315,4 +317,14 @@ pub extern "C" fn drasumira_write_utf8(text: &[u32], out: &mut [u8]) -> HostRead
     ensures { λ _. ⌜ now (out .exit) ≡ writing.outAfter (now (text .entry)) (now (out .entry)) ⌝ }
 {
     flat_counted(utf8_write::write_utf8(text, out))
+}
+
+// Earlier rankings laid end to end, with their lengths, merged into one. Both lists are of match entries, two u32 an entry, as a list of
+// CoherenceMatch lies in memory; the lengths of the slices count u32.
+#[no_mangle]
+pub extern "C" fn drasumira_merge(list: &[u32], lengths: &[u32], out: &mut [u32]) -> HostRanking
+    ensures { λ r. ⌜ r ≡ hostMerged (mergeAnswer (now (list .entry)) (now (lengths .entry)) (length (now (out .entry)))) ⌝ }
+    ensures { λ _. ⌜ now (out .exit) ≡ mergeInto (now (list .entry)) (now (lengths .entry)) (now (out .entry)) ⌝ }
+{
+    flat_merged(cd_merge::merge(list, lengths, out))
 }

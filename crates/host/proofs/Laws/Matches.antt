@@ -1,5 +1,6 @@
 -- What is answered of a ranking by value, and what is put of it into a lent list, is what 01 says: of any cause (`answer-is`, `put-after`), of a call with a
--- threshold (`ratio-answer`, `ratio-after`), and the same of one without (`default-answer`, `default-after`).
+-- threshold (`ratio-answer`, `ratio-after`), and the same of one without (`default-answer`, `default-after`). Of rankings merged: the flat form of each case
+-- (`merged-refused`, `merged-count`).
 -- Assumes nothing.
 use Prim.Native.Nat.{ℕ}
 use mathlib.Core.Path.{_≡_, refl, ap, _∙_}
@@ -8,18 +9,23 @@ use lib.Ieee.{Float}
 use lib.ListN.{length}
 use Rattle.base.specs.declared.Cause.{Cause}
 use Rattle.base.specs.declared.Cause.the-variants.{Allowed, Refused}
+use Rattle.base.specs.declared.Counted.{Counted}
+use Rattle.base.specs.declared.Counted.the-variants.{Count, Refused as NotCounted}
+use Rattle.base.specs.declared.Refusal.{Refusal}
 use Rattle.base.specs.Put.{put}
 use Rattle.base.specs.Counted.{countUnless, values, lentAfter}
+use Rattle.base.specs.Refusals.{ACCEPTED}
 use Rattle.base.proofs.Laws.Put.{put-nothing}
 use Rattle.cd_ranking.specs.declared.CoherenceMatch.{CoherenceMatch}
 use Rattle.cd_ranking.specs.Ranking.{byValue, refusedRanking}
+use Rattle.cd_list.specs.declared.HostRanking.{HostRanking}
 use Rattle.cd_list.specs.Inner.Lent.{matchesIn, answerOf}
 use Rattle.cd_list.proofs.Laws.Lent.{matches-are, matches-none}
 use Rattle.cd.specs.Causes.{causes, causesDefault}
 use Rattle.cd.proofs.Laws.Causes.{default-causes}
 use Rattle.cd.specs.Coherence.{DEFAULT-THRESHOLD, matchesOf, answered, coherenceRatio}
 use Rattle.cd.proofs.Laws.Coherence.{default-finite}
-use Rattle.host.specs.Matches.{hostRanking}
+use Rattle.host.specs.Matches.{hostRanking, hostMerged}
 
 pub answer-is : (c : Cause) (matches : List CoherenceMatch) → answerOf (answered c matches) ≡ hostRanking c matches
 unfolding answered byValue refusedRanking hostRanking countUnless values
@@ -56,3 +62,18 @@ module _ (text : List ℕ) (small : ℕ) (classes pairs t included : List ℕ) (
   pub default-after : lentAfter (causes text DEFAULT-THRESHOLD classes pairs t included work (length out)) found out
       ≡ lentAfter (causesDefault text classes pairs t included work (length out)) found out
   default-after = ap (λ (c : Cause). lentAfter c found out) same
+
+-- ---- rankings merged
+abbrev pub refusedMerge : Refusal → HostRanking
+refusedMerge r = record { number = r .number; place = r .place; count = 0 }
+
+abbrev pub countedMerge : ℕ → HostRanking
+countedMerge n = record { number = ACCEPTED; place = 0; count = n }
+
+pub merged-refused : (a : Counted) (r : Refusal) → a ≡ NotCounted r → refusedMerge r ≡ hostMerged a
+unfolding hostMerged values
+merged-refused a r e = rw e
+
+pub merged-count : (a : Counted) (n : ℕ) → a ≡ Count n → countedMerge n ≡ hostMerged a
+unfolding hostMerged values
+merged-count a n e = rw e
