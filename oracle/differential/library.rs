@@ -153,6 +153,7 @@ unsafe extern "C" {
         pairs_n: usize,
     ) -> HostChosen;
     fn drasumira_write_utf8(text: *const u32, n: usize, out: *mut u8, room: usize) -> HostRead;
+    fn drasumira_merge(list: *const u32, n: usize, lengths: *const u32, rankings: usize, out: *mut u32, room: usize) -> HostRead;
     fn drasumira_ring_open(ring: *const u8, n: usize) -> HostRing;
     fn drasumira_ring_put(
         ring: *mut u8,
@@ -193,6 +194,11 @@ impl Lent {
 
 pub fn check_classes(classes: &[u8]) -> HostRead {
     unsafe { drasumira_check_classes(classes.as_ptr(), classes.len()) }
+}
+
+// HostRanking has the members of HostRead.
+pub fn merge(list: &[u32], lengths: &[u32], out: &mut [u32]) -> HostRead {
+    unsafe { drasumira_merge(list.as_ptr(), list.len(), lengths.as_ptr(), lengths.len(), out.as_mut_ptr(), out.len()) }
 }
 
 pub fn read(bytes: &[u8], out: &mut Guarded<u32>) -> HostRead {

@@ -11,6 +11,7 @@ mod library;
 mod lines;
 mod pages;
 mod random;
+mod merge;
 mod ring;
 mod tables;
 mod texts;
@@ -588,7 +589,7 @@ fn main() {
         }
         _ => {
             eprintln!(
-                "usage: differential quick|full|survey-once|survey-twice TABLES [SEED [scoring|reading|pages|writing|coherence|rings]]"
+                "usage: differential quick|full|survey-once|survey-twice TABLES [SEED [scoring|reading|pages|writing|coherence|merges|rings]]"
             );
             std::process::exit(2)
         }
@@ -615,7 +616,7 @@ fn main() {
     walls::watch();
     eprintln!("seed {seed}, over {}", env!("LIBRARY"));
     for name in
-        ["scoring", "reading", "pages", "writing", "coherence", "rings"].into_iter().filter(|name| part.is_none_or(|part| part == *name))
+        ["scoring", "reading", "pages", "writing", "coherence", "merges", "rings"].into_iter().filter(|name| part.is_none_or(|part| part == *name))
     {
         run.part = name;
         match name {
@@ -624,6 +625,7 @@ fn main() {
             "pages" => run.code_pages(dir),
             "writing" => run.all_writing(&classes),
             "coherence" => run.coherence(&classes, &pairs, &languages),
+            "merges" => run.all_merges(),
             _ => run.all_rings(),
         }
     }

@@ -1,4 +1,4 @@
-use crate::host::coherence::{Question, coherence as ask};
+use crate::host::coherence::{Question, coherence as ask, merge as ask_merge};
 use crate::text::points;
 use crate::{Refusal, Tables, Text, unless_refused};
 
@@ -8,6 +8,8 @@ pub const TOO_SMALL_SEQUENCE: u32 = 32;
 const RECORD: usize = 1_032;
 const WORK_PER_POINT: usize = 4;
 const LONGEST_RANKED: usize = 8_192;
+const MOST_RANKINGS: usize = 64;
+const LONGEST_RANKING: usize = 63;
 
 /// A language of a text, by its number in the language table, and how well the text's letters fit its own, from 0 to 1.
 #[repr(C)]
@@ -125,4 +127,35 @@ fn ranking(
     let told = ask(&question, &mut work, &mut matches);
     matches.truncate(told.count as usize);
     unless_refused(told.number, told.place, matches)
+}
+
+/// One ranking of several: each language with the mean of its scores, the best first; of equal means the language that appears first.
+///
+/// At most 64 rankings of at most 63 entries, scores from 0 to 1. The mean is the f32 sum of the language's scores in their order, from +0.0 on,
+/// divided by how many they are, and lies between 0 and 1.
+///
+/// ```
+/// use drasumira::{CoherenceMatch, Refusal, merge};
+/// let entry = |language, score| CoherenceMatch { language, score };
+/// let shift = [vec![entry(3, 0.5), entry(7, 0.25)], vec![entry(7, 0.75)]];
+/// let lists: Vec<&[CoherenceMatch]> = shift.iter().map(Vec::as_slice).collect();
+/// assert_eq!(merge(&lists)?, [entry(3, 0.5), entry(7, 0.5)]);
+/// let refused = merge(&[&[entry(3, 1.5)]]).unwrap_err();
+/// assert_eq!(refused, Refusal::new(Refusal::NOT_FINITE, 0));
+/// # Ok::<(), Refusal>(())
+/// ```
+///
+/// # Errors
+///
+/// [`Refusal::BAD_LENGTHS`] for more than 64 rankings or one of more than 63 entries, then [`Refusal::NOT_FINITE`] for a score that is not from 0
+/// to 1, at its place in the rankings laid end to end.
+pub fn merge(rankings: &[&[CoherenceMatch]]) -> Result<Vec<CoherenceMatch>, Refusal> {
+    let lengths: Vec<u32> = rankings.iter().map(|ranking| u32::try_from(ranking.len()).unwrap_or(u32::MAX)).collect();
+    // more than the library takes is not laid end to end: its lengths refuse it
+    let fit = rankings.len() <= MOST_RANKINGS && rankings.iter().all(|ranking| ranking.len() <= LONGEST_RANKING);
+    let list = if fit { rankings.concat() } else { Vec::new() };
+    let mut out = vec![CoherenceMatch::default(); list.len()];
+    let told = ask_merge(&list, &lengths, &mut out);
+    out.truncate(told.count as usize);
+    unless_refused(told.number, told.place, out)
 }

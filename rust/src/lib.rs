@@ -35,7 +35,7 @@ mod text;
 mod writing;
 
 pub use chooser::{RefusedText, Which, choose, verdict};
-pub use coherence::{CoherenceMatch, Languages, TOO_SMALL_SEQUENCE, coherence, language_name};
+pub use coherence::{CoherenceMatch, Languages, TOO_SMALL_SEQUENCE, coherence, language_name, merge};
 pub use page::Page;
 pub use refusal::Refusal;
 pub use ring::{MOST_RECORDS, RECORD, Record, Ring};

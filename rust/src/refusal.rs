@@ -24,7 +24,7 @@ impl Refusal {
     pub const ILL_FORMED: u32 = 2;
     /// A lent output or work area is too short.
     pub const NO_ROOM: u32 = 3;
-    /// The threshold is no finite number.
+    /// The threshold is no finite number; in merging, a score is not from 0 to 1, and the place is its entry.
     pub const NOT_FINITE: u32 = 4;
     /// The class table is not good. The place is the first bad record, or 0 for its length or number.
     pub const BAD_CLASSES: u32 = 5;
@@ -46,6 +46,8 @@ impl Refusal {
     pub const BAD_RING: u32 = 15;
     /// A ring that holds as many records as it has slots.
     pub const RING_FULL: u32 = 16;
+    /// More than 64 rankings to merge, one of more than 63 entries, or lengths that do not add up to the list.
+    pub const BAD_LENGTHS: u32 = 18;
 
     /// A refusal of this number and place.
     pub const fn new(number: u32, place: u32) -> Refusal {
@@ -64,7 +66,7 @@ impl fmt::Display for Refusal {
             ),
             Refusal::ILL_FORMED => write!(f, "the bytes are not UTF-8, or not of the code page, from byte {place} on"),
             Refusal::NO_ROOM => write!(f, "a lent output or work area is too short"),
-            Refusal::NOT_FINITE => write!(f, "the threshold is not a finite number"),
+            Refusal::NOT_FINITE => write!(f, "the threshold is not a finite number, or the score of entry {place} to merge is not from 0 to 1"),
             Refusal::BAD_CLASSES => bad_table(f, "class", place),
             Refusal::UNCLASSED => {
                 write!(f, "the code point at index {place} of the text, or in a ranking its lower case, is in no record of the class table")
@@ -81,6 +83,7 @@ impl fmt::Display for Refusal {
             Refusal::NOT_SCALAR => write!(f, "the number at index {place} of the text is no scalar value"),
             Refusal::BAD_RING => write!(f, "the ring is not 1 to 2,048 records of 32 bytes, or its head or its count is past its size"),
             Refusal::RING_FULL => write!(f, "the ring is full"),
+            Refusal::BAD_LENGTHS => write!(f, "over 64 rankings to merge, one of over 63 entries, or lengths that do not add up to the list"),
             _ => write!(f, "place {place}"),
         }
     }

@@ -1,4 +1,4 @@
-// The ranking's two entries by the C ABI: each slice crosses as pointer and length, and the answer of 12 bytes comes back by value.
+// The ranking's three entries by the C ABI: each slice crosses as pointer and length, and the answer of 12 bytes comes back by value.
 use crate::CoherenceMatch;
 use std::mem::offset_of;
 
@@ -22,6 +22,17 @@ unsafe extern "C" {
     fn drasumira_coherence_default(text: *const u32, n: usize, small: u32, classes: *const u8, classes_n: usize,
         pairs: *const u8, pairs_n: usize, languages: *const u8, languages_n: usize, included: *const u32, included_n: usize,
         work: *mut u32, work_n: usize, matches: *mut CoherenceMatch, matches_n: usize) -> HostRanking;
+    fn drasumira_merge(list: *const CoherenceMatch, list_words: usize, lengths: *const u32, rankings: usize,
+        out: *mut CoherenceMatch, out_words: usize) -> HostRanking;
+}
+
+// The words of an entry: the library has a list of entries as u32.
+const WORDS: usize = size_of::<CoherenceMatch>() / size_of::<u32>();
+
+pub fn merge(list: &[CoherenceMatch], lengths: &[u32], out: &mut [CoherenceMatch]) -> HostRanking {
+    // SAFETY: as in host.rs: pointer and length are those of one Rust slice each, two u32 for each entry, `out` is `&mut` and overlaps nothing
+    // else, every value of CoherenceMatch's two members is one, and the entry is declared as crates/host/src/lib.rt has it.
+    unsafe { drasumira_merge(list.as_ptr(), list.len() * WORDS, lengths.as_ptr(), lengths.len(), out.as_mut_ptr(), out.len() * WORDS) }
 }
 
 // What is asked, but for the work area and the list that is filled.
