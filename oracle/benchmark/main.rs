@@ -8,6 +8,7 @@ mod coherence;
 #[allow(dead_code)]
 mod library;
 mod lines;
+mod merge;
 mod pages;
 mod ring;
 mod writing;
@@ -131,7 +132,7 @@ fn table(all: &Lent, none: &Lent) {
 fn main() {
     let words: Vec<String> = std::env::args().skip(1).collect();
     let words: Vec<&str> = words.iter().map(String::as_str).collect();
-    let usage = "usage: benchmark TABLES [ring | pages | writing | coherence [SIDE NAME LENGTH CALLS] | SIDE NAME LENGTH all|none CALLS]";
+    let usage = "usage: benchmark TABLES [ring | pages | writing | merge | coherence [SIDE NAME LENGTH CALLS] | SIDE NAME LENGTH all|none CALLS]";
     let dir = words.first().expect(usage);
     let file = |name: &str| std::fs::read(format!("{dir}/{name}.bin")).expect(name);
     let (classes, pairs) = (file("classes"), file("pairs"));
@@ -142,6 +143,7 @@ fn main() {
         ["ring"] => ring::table(),
         ["pages"] => pages::table(dir),
         ["writing"] => writing::table(),
+        ["merge"] => merge::table(),
         ["coherence", side, name, n, calls] => {
             coherence::calls(&rankings, side, name, n.parse().expect("a length"), calls.parse().expect("a number of calls"))
         }
@@ -155,6 +157,7 @@ fn main() {
             table(&all, &none);
             ring::table();
             writing::table();
+            merge::table();
             println!();
             coherence::table(&rankings);
             println!();

@@ -100,7 +100,8 @@ fn score(random: &mut Random) -> f32 {
 
 // One that is not from 0 to 1.
 fn no_score(random: &mut Random) -> f32 {
-    let edges = [0x3F80_0001, 0x8000_0001, 0x7F80_0000, 0xFF80_0000, 0x7FC0_0000, 0xFFC0_0000, 0x7F80_0001, 0xFFFF_FFFF, 0xBF80_0000, 0x4000_0000];
+    let edges =
+        [0x3F80_0001, 0x8000_0001, 0x7F80_0000, 0xFF80_0000, 0x7FC0_0000, 0xFFC0_0000, 0x7F80_0001, 0xFFFF_FFFF, 0xBF80_0000, 0x4000_0000];
     f32::from_bits(*random.pick(&edges))
 }
 
@@ -119,7 +120,12 @@ impl Run {
         });
         self.refused += (expected.number != 0) as u64;
         if told != expected || !out.holds(&holds) || !given.whole() || !told_lengths.whole() {
-            self.fail(|| format!("merge of {list:?} with {lengths:?}, room {room}: {told:?}, 02 says {expected:?}; {:08X?}, 02 says {holds:08X?}", out.list()));
+            self.fail(|| {
+                format!(
+                    "merge of {list:?} with {lengths:?}, room {room}: {told:?}, 02 says {expected:?}; {:08X?}, 02 says {holds:08X?}",
+                    out.list()
+                )
+            });
         }
         if known && expected.number == 0 && words(&crates_merge(list, lengths)) != holds[..2 * expected.count as usize] {
             self.fail(|| format!("merge of {list:?} with {lengths:?}: {holds:08X?}, the crate {:?}", crates_merge(list, lengths)));
@@ -151,7 +157,8 @@ impl Run {
                 _ => {}
             }
             let languages = appearing(&list).len();
-            let room = if self.random.below(3) == 0 { languages.saturating_sub(self.random.below(2)) } else { languages + self.random.below(5) };
+            let room =
+                if self.random.below(3) == 0 { languages.saturating_sub(self.random.below(2)) } else { languages + self.random.below(5) };
             let odd = self.random.below(4) == 0;
             self.merging(&list, &lengths, room, odd, known);
         }
@@ -161,8 +168,9 @@ impl Run {
     fn longest_merges(&mut self, times: usize) {
         for _ in 0..times {
             for languages in [63, 4_032, usize::MAX] {
-                let list: Vec<Entry> =
-                    (0..4_032).map(|at| (if languages == usize::MAX { at } else { self.random.below(languages) as u32 }, score(&mut self.random))).collect();
+                let list: Vec<Entry> = (0..4_032)
+                    .map(|at| (if languages == usize::MAX { at } else { self.random.below(languages) as u32 }, score(&mut self.random)))
+                    .collect();
                 self.merging(&list, &[LONGEST; MOST], 4_032, false, false);
                 self.merging(&list, &[LONGEST; MOST + 1], 4_032, false, false);
             }

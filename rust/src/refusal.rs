@@ -66,7 +66,9 @@ impl fmt::Display for Refusal {
             ),
             Refusal::ILL_FORMED => write!(f, "the bytes are not UTF-8, or not of the code page, from byte {place} on"),
             Refusal::NO_ROOM => write!(f, "a lent output or work area is too short"),
-            Refusal::NOT_FINITE => write!(f, "the threshold is not a finite number, or the score of entry {place} to merge is not from 0 to 1"),
+            Refusal::NOT_FINITE => {
+                write!(f, "the threshold is not a finite number, or the score of entry {place} to merge is not from 0 to 1")
+            }
             Refusal::BAD_CLASSES => bad_table(f, "class", place),
             Refusal::UNCLASSED => {
                 write!(f, "the code point at index {place} of the text, or in a ranking its lower case, is in no record of the class table")
@@ -83,7 +85,9 @@ impl fmt::Display for Refusal {
             Refusal::NOT_SCALAR => write!(f, "the number at index {place} of the text is no scalar value"),
             Refusal::BAD_RING => write!(f, "the ring is not 1 to 2,048 records of 32 bytes, or its head or its count is past its size"),
             Refusal::RING_FULL => write!(f, "the ring is full"),
-            Refusal::BAD_LENGTHS => write!(f, "over 64 rankings to merge, one of over 63 entries, or lengths that do not add up to the list"),
+            Refusal::BAD_LENGTHS => {
+                write!(f, "over 64 rankings to merge, one of over 63 entries, or lengths that do not add up to the list")
+            }
             _ => write!(f, "place {place}"),
         }
     }
