@@ -36,10 +36,10 @@ fn mean(list: &[Entry], language: u32) -> f32 {
     sum / scores.len() as f32
 }
 
-// Falling score; a stable sort leaves ties by first appearance.
+// Falling score; a stable sort leaves ties by first appearance. No mean is a NaN or -0.0, so that this is the order of numbers.
 fn merged(list: &[Entry]) -> Vec<Entry> {
     let mut told: Vec<Entry> = appearing(list).into_iter().map(|language| (language, mean(list, language))).collect();
-    told.sort_by(|a, b| b.1.partial_cmp(&a.1).expect("no mean is a NaN"));
+    told.sort_by(|a, b| b.1.total_cmp(&a.1));
     told
 }
 
@@ -164,6 +164,33 @@ impl Run {
         }
     }
 
+    // What those draws do not meet: a length at 63 and past it that adds up; as many rankings of one entry as may be, and more; every set of causes, with one bad score or two.
+    fn merge_edges(&mut self, times: usize) {
+        for _ in 0..times {
+            for n in [0, 1, LONGEST - 1, LONGEST, LONGEST + 1, 2 * LONGEST] {
+                let list: Vec<Entry> = (0..n).map(|at| (at % 9, score(&mut self.random))).collect();
+                for lengths in [vec![n], vec![0, n], vec![n, 0, 0]] {
+                    self.merging(&list, &lengths, 9, false, false);
+                }
+            }
+            for rankings in MOST - 1..=MOST + 2 {
+                let list: Vec<Entry> = (0..rankings as u32).map(|at| (at % 9, score(&mut self.random))).collect();
+                self.merging(&list, &vec![1; rankings], 9, false, false);
+            }
+            for (first, second) in (0..5).flat_map(|first| (first..5).map(move |second| (first, second))) {
+                for causes in 0..8 {
+                    let mut list: Vec<Entry> = (0..5).map(|at| (5 - at, score(&mut self.random))).collect();
+                    for at in [first, second].into_iter().filter(|_| causes & 1 != 0) {
+                        list[at].1 = no_score(&mut self.random);
+                    }
+                    let lengths = if causes & 2 == 0 { [3, 2] } else { *self.random.pick(&[[2, 2], [3, 3]]) };
+                    let room = if causes & 4 == 0 { 5 } else { self.random.below(5) };
+                    self.merging(&list, &lengths, room, false, false);
+                }
+            }
+        }
+    }
+
     // 64 rankings of 63: over 63 languages, over as many as there are entries, and one length more.
     fn longest_merges(&mut self, times: usize) {
         for _ in 0..times {
@@ -222,6 +249,7 @@ impl Run {
     }
 
     pub fn all_merges(&mut self) {
+        self.during("edges of rankings merged", |run| run.merge_edges(run.times(10, 200)));
         self.during("rankings merged", |run| run.merges(run.times(20_000, 400_000), false));
         self.during("rankings merged, the crate's languages", |run| run.merges(run.times(10_000, 200_000), true));
         self.during("longest rankings merged", |run| run.longest_merges(run.times(3, 60)));

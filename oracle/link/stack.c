@@ -1,7 +1,8 @@
 /* How many bytes of stack each entry of the library takes, its callees among them: `oracle/link/run-x86 oracle/link/stack.c target/staticlib/libhost.a OUT`
    after `rt staticlib host`. It is also a C host: it declares the entries as docs/HOST.md has them, and asserts the layouts of the answers.
    The stack below the caller is painted before a call, and looked through for the first word that is no longer the paint. Tables: no class
-   record, no suspicious pair, one language, a page without an unused entry. Texts: small letters. */
+   record, no suspicious pair, one language, a page without an unused entry. Texts: small letters. Rankings: each entry a language of its own.
+   Each call must be accepted: the status is 1 where one is refused. */
 typedef unsigned char u8;
 typedef unsigned short u16;
 typedef unsigned int u32;
@@ -39,38 +40,47 @@ HostRanking drasumira_coherence(const u32 *text, usize n, float threshold, u32 s
 HostRanking drasumira_coherence_default(const u32 *text, usize n, u32 small, TABLES, const u8 *languages, usize languages_n,
     const u32 *included, usize included_n, u32 *work, usize work_n, CoherenceMatch *matches, usize matches_n);
 HostRead drasumira_write_utf8(const u32 *text, usize n, u8 *out, usize room);
+HostRanking drasumira_merge(const CoherenceMatch *list, usize list_words, const u32 *lengths, usize rankings, CoherenceMatch *out, usize out_words);
 HostRing drasumira_ring_open(const u8 *ring, usize n);
 HostRing drasumira_ring_put(u8 *ring, usize n, u32 head, u32 count, u64 line, u32 bits, u32 fed, u32 stopped, u32 refusal);
 HostRing drasumira_ring_flush(const u8 *ring, usize n, u32 head, u32 count, u32 most, u8 *out, usize room);
 
-enum { LONGEST = 65536, RANKED = 8192, DEPTH = 1 << 20, SLACK = 256 };
+enum { LONGEST = 65536, RANKED = 8192, RANKINGS = 64, RANKING_LONGEST = 63, MERGED = RANKINGS * RANKING_LONGEST, DEPTH = 1 << 20, SLACK = 256 };
 
-static u32 text[LONGEST], out[LONGEST], work[4 * RANKED];
+static u32 text[LONGEST], out[LONGEST], work[4 * RANKED], each[RANKINGS];
 static u8 bytes[LONGEST], back[LONGEST], pairs[32768], language[1032], ring[LONGEST], flushed[LONGEST];
 static u16 page[128];
-static CoherenceMatch matches[1];
+static CoherenceMatch matches[1], list[MERGED], merged[MERGED];
 static HostScore told;
 static usize n;
+static u32 number; /* of the last answer */
 
 #define LENT 0, 0, pairs, sizeof pairs
 #define RANKING LENT, language, sizeof language, 0, 0, work, 4 * n, matches, 1
-static void check_classes(void) { drasumira_check_classes(0, 0); }
-static void read_bytes(void) { drasumira_read(bytes, n, out, n); }
-static void read_page(void) { drasumira_read_page(page, 128, bytes, n, out, n); }
-static void write_page(void) { drasumira_write_page(page, 128, text, n, back, n); }
-static void score(void) { drasumira_score(&told, text, n, 9, LENT); }
-static void score_default(void) { drasumira_score_default(&told, text, n, LENT); }
-static void score_utf8(void) { drasumira_score_utf8(&told, bytes, n, 9, LENT); }
-static void score_utf8_default(void) { drasumira_score_utf8_default(&told, bytes, n, LENT); }
-static void score_lines(void) { drasumira_score_lines(bytes, n, 9, LENT, out, LONGEST); }
-static void verdict(void) { drasumira_verdict(text, n, text, n, LENT); }
-static void choose(void) { drasumira_choose(text, n, text, n, LENT); }
-static void coherence(void) { drasumira_coherence(text, n, 0, 32, RANKING); }
-static void coherence_default(void) { drasumira_coherence_default(text, n, 32, RANKING); }
-static void write_utf8(void) { drasumira_write_utf8(text, n, flushed, LONGEST); }
-static void ring_open(void) { drasumira_ring_open(ring, LONGEST); }
-static void ring_put(void) { drasumira_ring_put(ring, LONGEST, 0, 0, n, 0, 1, 0, 0); }
-static void ring_flush(void) { drasumira_ring_flush(ring, LONGEST, 0, 1, 1, flushed, LONGEST); }
+static void check_classes(void) { number = drasumira_check_classes(0, 0).number; }
+static void read_bytes(void) { number = drasumira_read(bytes, n, out, n).number; }
+static void read_page(void) { number = drasumira_read_page(page, 128, bytes, n, out, n).number; }
+static void write_page(void) { number = drasumira_write_page(page, 128, text, n, back, n).number; }
+static void score(void) { number = drasumira_score(&told, text, n, 9, LENT)->number; }
+static void score_default(void) { number = drasumira_score_default(&told, text, n, LENT)->number; }
+static void score_utf8(void) { number = drasumira_score_utf8(&told, bytes, n, 9, LENT)->number; }
+static void score_utf8_default(void) { number = drasumira_score_utf8_default(&told, bytes, n, LENT)->number; }
+static void score_lines(void) { number = drasumira_score_lines(bytes, n, 9, LENT, out, LONGEST).number; }
+static void verdict(void) { number = drasumira_verdict(text, n, text, n, LENT).number; }
+static void choose(void) { number = drasumira_choose(text, n, text, n, LENT).number; }
+static void coherence(void) { number = drasumira_coherence(text, n, 0, 32, RANKING).number; }
+static void coherence_default(void) { number = drasumira_coherence_default(text, n, 32, RANKING).number; }
+static void write_utf8(void) { number = drasumira_write_utf8(text, n, flushed, LONGEST).number; }
+static void merge(void) {
+    for (usize i = 0; i < RANKINGS; i++) {
+        usize before = i * RANKING_LONGEST, left = n > before ? n - before : 0;
+        each[i] = left < RANKING_LONGEST ? left : RANKING_LONGEST;
+    }
+    number = drasumira_merge(list, 2 * n, each, RANKINGS, merged, 2 * n).number;
+}
+static void ring_open(void) { number = drasumira_ring_open(ring, LONGEST).number; }
+static void ring_put(void) { number = drasumira_ring_put(ring, LONGEST, 0, 0, n, 0, 1, 0, 0).number; }
+static void ring_flush(void) { number = drasumira_ring_flush(ring, LONGEST, 0, 1, 1, flushed, LONGEST).number; }
 
 #define PAINT 0xA5A5A5A5A5A5A5A5ul
 static __attribute__((noinline)) usize used(void (*call)(void)) {
@@ -89,17 +99,21 @@ int main(void) {
         {"score_default", score_default, LONGEST}, {"score_utf8", score_utf8, LONGEST}, {"score_utf8_default", score_utf8_default, LONGEST},
         {"score_lines", score_lines, LONGEST}, {"verdict", verdict, LONGEST}, {"choose", choose, LONGEST},
         {"coherence", coherence, RANKED}, {"coherence_default", coherence_default, RANKED},
-        {"write_utf8", write_utf8, LONGEST}, {"ring_open", ring_open, LONGEST}, {"ring_put", ring_put, LONGEST}, {"ring_flush", ring_flush, LONGEST},
+        {"write_utf8", write_utf8, LONGEST}, {"merge", merge, MERGED},
+        {"ring_open", ring_open, LONGEST}, {"ring_put", ring_put, LONGEST}, {"ring_flush", ring_flush, LONGEST},
     };
-    static const usize lengths[] = {80, 256, 257, 4096, 4097, RANKED, LONGEST};
+    static const usize lengths[] = {80, 256, 257, MERGED, 4096, 4097, RANKED, LONGEST};
     for (usize i = 0; i < LONGEST; i++) text[i] = bytes[i] = 'a' + i * 7 % 26;
     for (usize i = 0; i < 128; i++) page[i] = 0x400 + i;
+    for (usize i = 0; i < MERGED; i++) list[i] = (CoherenceMatch){i, 0.5f};
     language[0] = 1, language[4] = 1, language[8] = 'a';
     for (usize e = 0; e < sizeof entries / sizeof *entries; e++) {
         printf("drasumira_%s", entries[e].name);
         for (usize i = 0; i < sizeof lengths / sizeof *lengths; i++) {
             n = lengths[i];
-            if (n <= entries[e].most) printf(" %lu:%lu", n, used(entries[e].call));
+            if (n > entries[e].most) continue;
+            printf(" %lu:%lu", n, used(entries[e].call));
+            if (number) { printf("\ndrasumira_%s: refused with %u\n", entries[e].name, number); return 1; }
         }
         printf("\n");
     }
