@@ -42,12 +42,20 @@ impl Refusal {
     pub const NOT_ON_PAGE: u32 = 11;
     /// A number that is no scalar value, in a text that is written as UTF-8. The place is its index. No `char` is refused so.
     pub const NOT_SCALAR: u32 = 12;
+    /// A character past the length that was declared for a line.
+    pub const LINE_FULL: u32 = 13;
+    /// A line that is closed with fewer characters than were declared.
+    pub const LINE_SHORT: u32 = 14;
     /// A ring that is not 1 to 2,048 records of 32 bytes, or whose head is not below its size or its count above it.
     pub const BAD_RING: u32 = 15;
     /// A ring that holds as many records as it has slots.
     pub const RING_FULL: u32 = 16;
+    /// More than 65,535 lines in a report.
+    pub const MANY_LINES: u32 = 17;
     /// More than 64 rankings to merge, one of more than 63 entries, or lengths that do not add up to the list.
     pub const BAD_LENGTHS: u32 = 18;
+    /// A running state that cannot be gone on with: its threshold, its length, its range or one of its counts.
+    pub const BAD_STATE: u32 = 19;
 
     /// A refusal of this number and place.
     pub const fn new(number: u32, place: u32) -> Refusal {
@@ -83,10 +91,16 @@ impl fmt::Display for Refusal {
             Refusal::BAD_PAGE => write!(f, "the code page is not good: entry {place}, counted from 0, is the first bad one"),
             Refusal::NOT_ON_PAGE => write!(f, "the code page has no byte for the code point at index {place}"),
             Refusal::NOT_SCALAR => write!(f, "the number at index {place} of the text is no scalar value"),
+            Refusal::LINE_FULL => write!(f, "the line has all the characters that were declared: open another, or close it"),
+            Refusal::LINE_SHORT => write!(f, "the line has fewer characters than were declared: feed the rest before closing it"),
             Refusal::BAD_RING => write!(f, "the ring is not 1 to 2,048 records of 32 bytes, or its head or its count is past its size"),
             Refusal::RING_FULL => write!(f, "the ring is full"),
+            Refusal::MANY_LINES => write!(f, "a report takes 65,535 lines at most"),
             Refusal::BAD_LENGTHS => {
                 write!(f, "over 64 rankings to merge, one of over 63 entries, or lengths that do not add up to the list")
+            }
+            Refusal::BAD_STATE => {
+                write!(f, "the running state is not one to go on with: its threshold, length, range or a count is out of bounds; open it again")
             }
             _ => write!(f, "place {place}"),
         }

@@ -55,6 +55,14 @@ NOT-ON-PAGE = 11
 abbrev pub NOT-SCALAR : ℕ
 NOT-SCALAR = 12
 
+-- character past the declared length of a line; place 0
+abbrev pub LINE-FULL : ℕ
+LINE-FULL = 13
+
+-- line closed with fewer characters than declared; place 0
+abbrev pub LINE-SHORT : ℕ
+LINE-SHORT = 14
+
 -- ring of a wrong size, a head not below it or a count above it; place 0
 abbrev pub BAD-RING : ℕ
 BAD-RING = 15
@@ -63,6 +71,14 @@ BAD-RING = 15
 abbrev pub RING-FULL : ℕ
 RING-FULL = 16
 
+-- line 65,536 of a report; place 0
+abbrev pub MANY-LINES : ℕ
+MANY-LINES = 17
+
 -- lengths of rankings that do not fit their list; place 0
 abbrev pub BAD-LENGTHS : ℕ
 BAD-LENGTHS = 18
+
+-- running state that is lent and is none that can be gone on with; place 0
+abbrev pub BAD-STATE : ℕ
+BAD-STATE = 19

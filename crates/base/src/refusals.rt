@@ -41,11 +41,23 @@ pub const NOT_ON_PAGE: u32 = 11;
 // number that is no scalar value; place its index in the text
 pub const NOT_SCALAR: u32 = 12;
 
+// character past the declared length of a line; place 0
+pub const LINE_FULL: u32 = 13;
+
+// line closed with fewer characters than declared; place 0
+pub const LINE_SHORT: u32 = 14;
+
 // ring of a wrong size, a head not below it or a count above it; place 0
 pub const BAD_RING: u32 = 15;
 
 // ring that holds as many unflushed records as it has slots; place 0
 pub const RING_FULL: u32 = 16;
 
+// line 65,536 of a report; place 0
+pub const MANY_LINES: u32 = 17;
+
 // lengths of rankings that do not fit their list; place 0
 pub const BAD_LENGTHS: u32 = 18;
+
+// running state that is lent and is none that can be gone on with; place 0
+pub const BAD_STATE: u32 = 19;
