@@ -63,7 +63,7 @@ fn reaches(limit: Limit, sum: f32) -> bool
 }
 
 // Whether the scan stops after the character at i, in a text of n characters.
-fn is_over(s: Detectors, n: usize, i: usize, limit: Limit) -> bool
+pub fn is_over(s: Detectors, n: usize, i: usize, limit: Limit) -> bool
     requires { ⌜ detectors.Countable s ⌝ }
     ensures { λ r. ⌜ r ≡ (checkpoint n i && scans.reaches limit (scans.sumOf s)) ⌝ }
 {
@@ -74,7 +74,7 @@ fn is_over(s: Detectors, n: usize, i: usize, limit: Limit) -> bool
 }
 
 // The answer after `fed` characters.
-fn scored(s: Detectors, fed: u32, stopped: bool) -> Scored
+pub fn scored(s: Detectors, fed: u32, stopped: bool) -> Scored
     requires { ⌜ detectors.Countable s ⌝ }
     ensures { λ r. ⌜ r ≡ scans.scored s fed stopped ⌝ }
 {
