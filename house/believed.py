@@ -32,6 +32,7 @@ STATEMENTS = [
     ("page", "RoundTrips", "write-after-read"),  # writing what was read gives the same bytes
     ("page", "RoundTrips", "read-after-write"),  # reading what was written gives the same text
     ("marked_cases", "Marked", "marked"),  # 01's cases (a) to (l)
+    ("md_growth", "Growth", "last-growth"),  # 02 [8]: the state keeps the index of each detector's last growth
     ("ring", "History", "history"),  # 02 [11]: the accepted puts of a history of calls are the flushed records and those in the ring
     ("cd_merge", "Merge", "means-between"),  # 02 [14]: each mean, rounding included, lies between 0 and 1
 ]
