@@ -1,0 +1,6 @@
+pub mod State
+pub mod Opening
+pub mod Feeding
+pub mod Closing
+pub mod Line
+pub mod Inner
