@@ -18,6 +18,7 @@ CALLS = {
     "cd": ["coherence_ratio", "coherence_ratio_default"],
     "cd_languages": ["check_languages", "check_included"],
     "cd_merge": ["merge"],
+    "md_report": ["report"],
     "ring": ["open_ring", "put_record", "flush_records"],
     "program": ["report"],
     "host": None,
@@ -34,6 +35,10 @@ STATEMENTS = [
     ("marked_cases", "Marked", "marked"),  # 01's cases (a) to (l)
     ("md_growth", "Growth", "last-growth"),  # 02 [8]: the state keeps the index of each detector's last growth
     ("ring", "History", "history"),  # 02 [11]: the accepted puts of a history of calls are the flushed records and those in the ring
+    ("md_report", "Report", "bins-add-up"),  # 02 [13]: the bins of each detector add up to the accepted lines
+    ("md_report", "Report", "lines-add-up"),  # and that sum with the refused lines is the number of lines given
+    ("md_report", "Report", "numbers-add-up"),  # the lines refused with each number add up to the refused
+    ("md_report", "Longest", "report-fits"),  # no text of a month is longer than LONGEST-REPORT
     ("cd_merge", "Merge", "means-between"),  # 02 [14]: each mean, rounding included, lies between 0 and 1
 ]
 

@@ -28,6 +28,7 @@ FAMILIES = {
     "past_eights": "past whole eights of ASCII, of the one or of the other",
     "past_ones": "past single ones",
     "past_ascii": "past a run of ASCII",
+    "report": "what a caller prints: the program's line, a month's report",
 }
 # what a program that replays a list does with a case
 REPLAYS = re.compile(r"same_\w+|sum_bits|replay_all")

@@ -21,7 +21,7 @@ use Rattle.md.specs.declared.Scored.{Scored}
 use Rattle.md.specs.declared.Scored.the-variants.{Score, Refused}
 use Rattle.md.specs.MessRatio.{messRatio}
 use Rattle.program.specs.Program.{NO-CLASSES, NO-PAIRS}
-use Rattle.program.specs.Words.{codes}
+use Rattle.pieces.specs.Words.{codes}
 use Rattle.marked_cases.specs.Alone.{Detector, Symbols, Accents, Ranges, Stops, Archaic, ratioOf}
 
 pub data Case : Type 0 where

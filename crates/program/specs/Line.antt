@@ -11,8 +11,9 @@ use Rattle.base.specs.Put.{put}
 use Rattle.md.specs.declared.Scored.{Scored}
 use Rattle.md.specs.declared.Scored.the-variants.{Score, Refused}
 use Rattle.program.specs.Program.{answer}
-use Rattle.program.specs.Words.{codes}
-use Rattle.program.specs.Numerals.{hex, decimal}
+use Rattle.pieces.specs.Words.{codes}
+use Rattle.pieces.specs.Numerals.{decimal}
+use Rattle.program.specs.Numerals.{hex}
 
 unfoldable pub line : Scored → List ℕ
 line (Score s) =

@@ -1,7 +1,7 @@
 // The line that the program writes, piece by piece.
 ghost use mathlib.Core.Path.{_≡_};
 ghost use mathlib.Core.Bool.{not};
-ghost use Prim.Native.Nat.{_+_, _≤_, _<_};
+ghost use Prim.Native.Nat.{_≤_, _<_};
 ghost use lib.Dec.{T};
 ghost use lib.Ieee.{toBits, isNan, binary32};
 ghost use lib.ListN.{length};
@@ -9,13 +9,12 @@ ghost use Rattle.md.specs.declared.Scored.the-variants as scored;
 ghost use Rattle.program.specs.Numerals as numerals;
 ghost use Rattle.program.specs.Inner.Line as lines;
 ghost use Rattle.program.specs.Line.{line};
-ghost use Rattle.program.specs.Inner.Pieces.{Goes, Numbered};
+ghost use Rattle.pieces.specs.Inner.Pieces.{Goes};
 use base::Refusal;
 use base::one;
 use md::Score;
-
-// The bytes of the longest number in decimal that the kit writes, a u64.
-const LONGEST_DECIMAL: usize = 20;
+use pieces::put_number;
+use pieces::put_piece;
 
 // The hexadecimal digit of weight `weight`.
 fn hex_at(n: u32, weight: u32) -> u8
@@ -44,25 +43,6 @@ fn hex(n: u32) -> [u8; 8]
         hex_at(n, 0x10),
         hex_at(n, 1),
     ]
-}
-
-// Puts a piece into out and answers where the next one goes.
-fn put_piece(out: &mut [u8], at: usize, piece: &[u8]) -> usize
-    requires { ⌜ at + length (now piece) ≤ length (now out) ⌝ }
-    ensures { λ r. ⌜ Goes (now (out .entry)) (now (out .exit)) at (now (piece .entry)) r ⌝ }
-{
-    at + bytes::copy(piece, &mut out[at..])
-}
-
-// Puts a word and a number in decimal behind it.
-fn put_number(out: &mut [u8], at: usize, word: &[u8], n: u32) -> usize
-    requires { ⌜ at + length (now word) + numerals.MOST-DIGITS ≤ length (now out) ⌝ }
-    ensures { λ r. ⌜ Numbered (now (out .entry)) (now (out .exit)) at (now (word .entry)) n r ⌝ }
-{
-    let mut text = [0u8; LONGEST_DECIMAL];
-    let k = io::decimal(n as u64, &mut text);
-    let behind = put_piece(out, at, word);
-    put_piece(out, behind, &text[..k])
 }
 
 // The bits of a score's sum.

@@ -1,5 +1,6 @@
 -- Each piece goes behind the one before it, and together they are the line. Assumes nothing.
-use Rattle.program.proofs.Laws.Pieces.{goes-on, goes-as, refused-pieces}
+use Rattle.pieces.proofs.Laws.Pieces.{goes-on, goes-as}
+use Rattle.program.proofs.Laws.Pieces.{refused-pieces}
 use borrow.Author.Needs.{needs}
 use Rattle.program.proofs.line.put_refused.Statement.{statement}
 use Rattle.program.proofs.line.put_refused.Tie as tie

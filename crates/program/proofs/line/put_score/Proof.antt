@@ -2,9 +2,11 @@
 use mathlib.Core.Path.{_∙_, ap}
 use mathlib.Core.List.{_++_}
 use Prim.Native.Nat.{ℕ}
-use Rattle.program.specs.Words.{codes}
-use Rattle.program.specs.Numerals.{hex, decimal}
-use Rattle.program.proofs.Laws.Pieces.{goes-on, goes-as, score-pieces}
+use Rattle.pieces.specs.Words.{codes}
+use Rattle.program.specs.Numerals.{hex}
+use Rattle.pieces.specs.Numerals.{decimal}
+use Rattle.pieces.proofs.Laws.Pieces.{goes-on, goes-as}
+use Rattle.program.proofs.Laws.Pieces.{score-pieces}
 use borrow.Author.Needs.{needs}
 use Rattle.program.proofs.line.put_score.Statement.{statement}
 use Rattle.program.proofs.line.put_score.Tie as tie

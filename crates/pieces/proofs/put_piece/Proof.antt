@@ -7,8 +7,8 @@ use Rattle.base.specs.Put.{put}
 use mathlib.Core.Path.{_≡_, ap}
 use Prim.Native.Nat.{ℕ, _+_, _-_, _≤_}
 use borrow.Author.Needs.{needs}
-use Rattle.program.proofs.line.put_piece.Statement.{statement}
-use Rattle.program.proofs.line.put_piece.Tie as tie
+use Rattle.pieces.proofs.put_piece.Statement.{statement}
+use Rattle.pieces.proofs.put_piece.Tie as tie
 
 -- the part from `at` on, with a piece copied to its front, put back into the whole
 part-put : (b p ys : List ℕ) (at : ℕ) → at + length p ≤ length b

@@ -1,5 +1,5 @@
 -- The fewest digits that hold a number, as the kit's `io::decimal` writes them, are the number in decimal (`written`), and a u32 has at
--- most ten (`few-digits`, `decimal-short`).
+-- most ten (`few-digits`, `decimal-short`); a number below the m-th power of ten has at most m digits (`decimal-few`).
 -- Assumes nothing.
 use Prim.Native.Nat.{ℕ, zero, suc, _+_, _-_, _*_, _/_, _%_, _^_, _≤_, _<_}
 use mathlib.Core.Path.{_≡_}
@@ -11,7 +11,7 @@ use lib.ListN.{length, length-append}
 use borrow.Author.Tests.{lt-ltb, le-ltb}
 use Rattle.base.proofs.Laws.Tests.{split, by-test}
 use Rattle.io.specs.Digits.{digits, glyph, Fewest}
-use Rattle.program.specs.Numerals.{CODE-0, MOST-DIGITS, decimalIn, decimal}
+use Rattle.pieces.specs.Numerals.{CODE-0, MOST-DIGITS, decimalIn, decimal}
 
 -- the kit's digit of a number below 10
 digit-same : (d : ℕ) → d < 10 → glyph d ≡ CODE-0 + d
@@ -67,3 +67,20 @@ short (suc most) n =
 pub decimal-short : (n : ℕ) → length (decimal n) ≤ MOST-DIGITS
 unfolding decimal
 decimal-short n = short MOST-DIGITS n
+
+-- a number below the m-th power of ten has at most m digits
+below-few : (most m n : ℕ) → n < 10 ^ suc m → length (decimalIn most n) ≤ suc m
+unfolding decimalIn
+below-few zero m n h = omega arith
+below-few (suc most) zero n h =
+    let l : n < 10 = h in
+    rw (lt-ltb n 10 l) (omega arith)
+below-few (suc most) (suc m) n h =
+    let u : n < 10 ^ suc m * 10 = rw pow-suc at h in
+    by-test (λ (l : List ℕ). length l ≤ suc (suc m)) (ltb n 10) _ _
+    (λ e. omega arith)
+    (λ e. omega (arith, below-few most m (n / 10) (omega arith), length-append (decimalIn most (n / 10)) ((CODE-0 + n % 10) ∷ [])))
+
+pub decimal-few : (m n : ℕ) → n < 10 ^ suc m → length (decimal n) ≤ suc m
+unfolding decimal
+decimal-few m n h = below-few MOST-DIGITS m n h

@@ -1,12 +1,12 @@
--- A piece of the line put into the output: what stands before it and behind it stays (`Goes`). A word with a number behind it is such a piece,
--- and it ends soon enough for the line to fit (`Numbered`).
+-- A piece of a text put into the output: what stands before it and behind it stays (`Goes`). A word with a number behind it is such a piece,
+-- and it ends soon enough for a text to fit (`Numbered`).
 -- Assumes nothing.
 use Prim.Native.Nat.{ℕ, _+_, _≤_}
 use mathlib.Core.Path.{_≡_}
 use mathlib.Core.List.{List, _++_}
 use lib.ListN.{length}
 use Rattle.base.specs.Put.{put}
-use Rattle.program.specs.Numerals.{decimal, MOST-DIGITS}
+use Rattle.pieces.specs.Numerals.{decimal, MOST-DIGITS}
 
 -- the output was `before` and is `after`, a piece was put at `at`, and the next piece comes at `next`
 pub record Goes (before after : List ℕ) (at : ℕ) (piece : List ℕ) (next : ℕ) : Type 0 where

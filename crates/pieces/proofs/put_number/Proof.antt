@@ -2,11 +2,11 @@
 use native.Mathlib.Omega.{arith}
 use mathlib.Core.Path.{_∙_}
 use Prim.Native.Nat.{_<_, _^_}
-use Rattle.program.proofs.Laws.Numerals.{few-digits, written}
-use Rattle.program.proofs.Laws.Pieces.{goes-on, goes-as, numbered}
+use Rattle.pieces.proofs.Laws.Numerals.{few-digits, written}
+use Rattle.pieces.proofs.Laws.Pieces.{goes-on, goes-as, numbered}
 use borrow.Author.Needs.{needs}
-use Rattle.program.proofs.line.put_number.Statement.{statement}
-use Rattle.program.proofs.line.put_number.Tie as tie
+use Rattle.pieces.proofs.put_number.Statement.{statement}
+use Rattle.pieces.proofs.put_number.Tie as tie
 
 put-piece-requires-2 : tie.Need-put-piece-requires-2
 put-piece-requires-2 c κs =

@@ -1,4 +1,4 @@
--- A word of the line as its bytes: the code of each of its characters, all of them ASCII.
+-- A word of a text as its bytes: the code of each of its characters, all of them ASCII.
 -- Assumes nothing.
 use Prim.Native.Nat.{ℕ}
 use Prim.Native.Char.{code}
