@@ -15,6 +15,7 @@ CALLS = {
     "md_utf8": ["mess_ratio_utf8", "mess_ratio_utf8_default"],
     "md_lines": ["score_lines"],
     "md_chooser": ["choose", "verdict"],
+    "md_reason": ["reason"],
     "cd": ["coherence_ratio", "coherence_ratio_default"],
     "cd_languages": ["check_languages", "check_included"],
     "cd_merge": ["merge"],

@@ -1,0 +1,4 @@
+pub mod Greatest
+pub mod Indexes
+pub mod Reason
+pub mod Steps
