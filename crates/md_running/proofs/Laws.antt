@@ -1,4 +1,5 @@
 pub mod Bounds
+pub mod Chunk
 pub mod Closing
 pub mod Feeding
 pub mod Line

@@ -3,12 +3,14 @@
 ghost use mathlib.Core.Path.{_≡_};
 ghost use Rattle.md_running.specs.Opening as opening;
 ghost use Rattle.md_running.specs.Feeding as feeding;
+ghost use Rattle.md_running.specs.Chunk.{feedChunk};
 ghost use Rattle.md_running.specs.Closing as closing;
 use base::Cause;
 use base::Counted;
 use base::Refusal;
 use base::limits::LONGEST_TEXT;
 use base::refusals::TOO_LONG;
+use chunk::feed_each;
 use closing::close_sound;
 use md::Scored;
 use md::tables::check_lent;
@@ -19,6 +21,7 @@ use step::feed_checked;
 use step::fresh_line;
 use step::unfed;
 
+mod chunk;
 mod closing;
 mod state;
 mod step;
@@ -67,6 +70,16 @@ pub fn feed_line(state: Running, point: u32, classes: &[u8], pairs: &[u8]) -> Fe
     match check_feed(state, 1, classes, pairs) {
         Cause::Refused(why) => unfed(state, why),
         Cause::Allowed => feed_checked(state, point, classes, pairs),
+    }
+}
+
+// A chunk of characters of a line: all of them, or none where one is refused.
+pub fn feed_chunk(state: Running, text: &[u32], classes: &[u8], pairs: &[u8]) -> Fed
+    ensures { λ r. ⌜ r ≡ feedChunk state (now (text .entry)) (now (classes .entry)) (now (pairs .entry)) ⌝ }
+{
+    match check_feed(state, text.len(), classes, pairs) {
+        Cause::Refused(why) => unfed(state, why),
+        Cause::Allowed => feed_each(state, text, classes, pairs),
     }
 }
 

@@ -16,7 +16,7 @@ const COUNTS: usize = 25;
 const TWICE: u32 = 2;
 
 // The counts of a state.
-fn counts_in(s: Running) -> [u32; COUNTS]
+fn counts_held(s: Running) -> [u32; COUNTS]
     ensures { λ r. ⌜ r ≡ countsIn s ⌝ }
 {
     let eight = s.watched.eight;
@@ -78,7 +78,7 @@ pub fn is_unsound(s: Running) -> bool
     if s.watched.eight.ranges.last > LAST_RANGE {
         return true;
     }
-    let counts = counts_in(s);
+    let counts = counts_held(s);
     any_above(&counts, TWICE * s.received)
 }
 

@@ -1,18 +1,21 @@
 -- One law for each way in which opening returns: over the length (`open-long`), a cause that lies in what is lent (`open-lent`), or a fresh line
--- (`open-fresh`).
+-- (`open-fresh`). And a line that was opened has a finite threshold (`opened-finite`).
 -- Assumes nothing.
 use Prim.Native.Nat.{ℕ, _≤_, _<_}
-use mathlib.Core.Path.{_≡_, sym, ap, _∙_}
+use mathlib.Core.Path.{_≡_, refl, sym, ap, _∙_}
+use mathlib.Core.Bool.{true, not}
 use mathlib.Core.List.{List}
+use native.Mathlib.Omega.{arith}
 use lib.Ieee.{Float}
-use borrow.Author.Tests.{lt-ltb, le-ltb}
+use borrow.Author.Tests.{lt-ltb, le-ltb, not-false}
 use Rattle.base.specs.declared.Cause.{Cause}
 use Rattle.base.specs.declared.Cause.the-variants.{Allowed, Refused}
 use Rattle.base.specs.declared.Refusal.{Refusal}
 use Rattle.base.specs.Causes.{refusedAt}
 use Rattle.base.specs.Limits.{LONGEST-TEXT}
-use Rattle.base.specs.Refusals.{TOO-LONG}
-use Rattle.base.proofs.Laws.Causes.{first-given, first-passed}
+use Rattle.base.specs.Refusals.{TOO-LONG, NOT-FINITE}
+use Rattle.base.proofs.Laws.Causes.{first-given, first-passed, first-free, given-free}
+use Rattle.ratio.specs.Finite.{isFinite, notFinite}
 use Rattle.md.specs.Inner.Lent.{ofLent, badLent}
 use Rattle.md_running.specs.declared.Running.{Running}
 use Rattle.md_running.specs.declared.Opened.the-variants.{Running as Open, Refused as NotOpen}
@@ -45,3 +48,27 @@ module _ (length : ℕ) (threshold : Float) (classes pairs : List ℕ) where
     pub open-fresh : badLent threshold classes pairs ≡ Allowed → Open (fresh length threshold) ≡ openLine length threshold classes pairs
     unfolding openLine
     open-fresh e = sym (open-allowed _ _ (on ∙ e))
+
+-- a line that was opened
+opened-by : (c : Cause) (s t : Running) → openUnless c s ≡ Open t → (c ≡ Allowed) × (s ≡ t)
+unfolding openUnless
+opened-by Allowed s t e = (refl, same e)
+  where
+    same : Open s ≡ Open t → s ≡ t
+    same f = cc
+opened-by (Refused r) s t e = absurd (no (told e))
+  where
+    told : NotOpen r ≡ Open t → _≡_ {A = ℕ} 0 1
+    told f = cc
+
+    no : _≡_ {A = ℕ} 0 1 → ⊥
+    no z = omega arith
+
+pub opened-finite : (length : ℕ) (threshold : Float) (classes pairs : List ℕ) (s : Running) → openLine length threshold classes pairs ≡ Open s
+    → isFinite (s .threshold) ≡ true
+unfolding openLine openCauses notFinite fresh
+opened-finite length threshold classes pairs s e =
+    let o = opened-by (openCauses length threshold classes pairs) (fresh length threshold) s e in
+    let a = first-free (longLine length) (ofLent threshold classes pairs) (o .0) in
+    let b = first-free (notFinite threshold) _ (a .1) in
+    rw (← o .1) (not-false (isFinite threshold) (given-free _ NOT-FINITE 0 (b .0)))

@@ -112,9 +112,12 @@ module _ (s : Running) where
       rw (p .finite, le-ltb LONGEST-TEXT (s .length) (p .short), le-ltb (s .length) (s .received) (p .declared), le-ltb LAST-RANGE (lastRange (eightOf s)) (p .range))
       (each-below (TWICE * s .received) (countsIn s) (p .counts))
 
-  pub free-sound : badState s ≡ Allowed → Sound s
+  pub free-unsound : badState s ≡ Allowed → unsound s ≡ false
   unfolding badState
-  free-sound e = sound-of (given-free _ BAD-STATE 0 e)
+  free-unsound e = given-free _ BAD-STATE 0 e
+
+  pub free-sound : badState s ≡ Allowed → Sound s
+  free-sound e = sound-of (free-unsound e)
 
   pub sound-free : Sound s → badState s ≡ Allowed
   sound-free p = sound-good (of-sound p)

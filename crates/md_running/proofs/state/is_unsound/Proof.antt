@@ -35,7 +35,7 @@ returns-5 c =
     let if2 = if3 .before .before in
     let if1 = if2 .before .before in
     c .any-above .ensures
-    ∙ rw (counted .counts-in .ensures)
+    ∙ rw (counted .counts-held .ensures)
     (by-counts _ (sym (if1 .before .is-finite .ensures) ∙ not-false _ (if1 .if1 .left)) (if2 .if2 .left) (if3 .if3 .left) (if4 .if4 .left))
 
 pub is-unsound-spec : {M : Type 1} → statement M
