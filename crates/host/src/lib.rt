@@ -13,6 +13,7 @@ ghost use Rattle.md_chooser.specs.Choose.{chosen, verdictOf};
 ghost use Rattle.cd.specs.Causes.{causes, causesDefault};
 ghost use Rattle.cd.specs.Coherence.{DEFAULT-THRESHOLD, matchesOf, workAfter};
 ghost use Rattle.cd_merge.specs.Answer.{mergeAnswer, mergeInto};
+ghost use Rattle.md_report.specs.Report.{reportAnswer, reportInto};
 ghost use Rattle.ring.specs.Calls as rings;
 ghost use Rattle.utf8_write.specs.Answer as writing;
 ghost use Rattle.host.specs.Chosen.{hostChosen};
@@ -327,4 +328,13 @@ pub extern "C" fn drasumira_merge(list: &[u32], lengths: &[u32], out: &mut [u32]
     ensures { λ _. ⌜ now (out .exit) ≡ mergeInto (now (list .entry)) (now (lengths .entry)) (now (out .entry)) ⌝ }
 {
     flat_merged(cd_merge::merge(list, lengths, out))
+}
+
+// The monthly report of the rows that drasumira_score_lines leaves, as text, into the first places of out.
+#[no_mangle]
+pub extern "C" fn drasumira_report(rows: &[u32], out: &mut [u8]) -> HostRead
+    ensures { λ r. ⌜ r ≡ hostCounted (reportAnswer (now (rows .entry)) (length (now (out .entry)))) ⌝ }
+    ensures { λ _. ⌜ now (out .exit) ≡ reportInto (now (rows .entry)) (now (out .entry)) ⌝ }
+{
+    flat_counted(md_report::report(rows, out))
 }
