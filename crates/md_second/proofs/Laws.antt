@@ -1,0 +1,4 @@
+pub mod Reading
+pub mod After
+pub mod Same
+pub mod Agreed

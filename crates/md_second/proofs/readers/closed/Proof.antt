@@ -1,0 +1,27 @@
+-- Each count is the definition's, by what the three tests of the word answer; the sums fit, since the counts have room. Assumes nothing.
+use Rattle.md_second.specs.Inner.Reading.{closed}
+use borrow.Author.Needs.{needs}
+use Rattle.md_second.proofs.readers.closed.Statement.{statement}
+use Rattle.md_second.proofs.readers.closed.Tie as tie
+
+returns : tie.Need-returns
+unfolding closed
+returns c = cc
+
+pub closed-spec : {M : Type 1} → statement M
+closed-spec =
+    tie.close
+    (tie.spec
+    (λ c κs. search needs)
+    (λ c κs. search needs)
+    (λ c κs. search needs)
+    (λ c. search needs)
+    (λ c κs. search needs)
+    (λ c. search needs)
+    (λ c κs. search needs)
+    (λ c. search needs)
+    (λ c κs. search needs)
+    (λ c. search needs)
+    (λ c κs. search needs)
+    (λ c. search needs)
+    returns)

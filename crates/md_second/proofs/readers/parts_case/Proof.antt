@@ -1,0 +1,13 @@
+-- One test of a bit for each flag that the definition names. Assumes nothing.
+use Rattle.md_words.specs.ArchaicUpperLower.{separates}
+use borrow.Author.Needs.{needs}
+use Rattle.md_second.proofs.readers.parts_case.Statement.{statement}
+use Rattle.md_second.proofs.readers.parts_case.Tie as tie
+
+returns : tie.Need-returns
+unfolding separates
+returns c = cc
+
+pub parts-case-spec : {M : Type 1} → statement M
+parts-case-spec =
+    tie.close (tie.spec (λ c κs. search needs) (λ c κs. search needs) returns)

@@ -1,0 +1,13 @@
+-- The ratios and their sum are made of the counts once. Assumes nothing.
+use Rattle.md_second.specs.Inner.Listed.{answered}
+use borrow.Author.Needs.{needs}
+use Rattle.md_second.proofs.scan.second_answer.Statement.{statement}
+use Rattle.md_second.proofs.scan.second_answer.Tie as tie
+
+returns : tie.Need-returns
+unfolding answered
+returns c = cc
+
+pub second-answer-spec : {M : Type 1} → statement M
+second-answer-spec =
+    tie.close (tie.spec (λ c κs. search needs) (λ c κs. search needs) returns)

@@ -1,0 +1,4 @@
+pub mod After
+pub mod Lists
+pub mod Reading
+pub mod Listed
