@@ -1,0 +1,201 @@
+// A running line as a host keeps it (02 [6]): 48 u32, which the host lends. Whatever stands in them has a meaning, the threshold being its bits and a mark a
+// number that is true where it is not 0; and the calls of the running score over them, by value.
+ghost use mathlib.Core.Path.{_≡_};
+ghost use Rattle.md_running.specs.Opening.{openLine};
+ghost use Rattle.md_running.specs.Feeding.{feedLine};
+ghost use Rattle.md_running.specs.Chunk.{feedChunk};
+ghost use Rattle.md_running.specs.Closing.{closeLine};
+ghost use Rattle.md_lent.specs.Lent as lent;
+use base::Counted;
+use base::refusals::ACCEPTED;
+use md::Scored;
+use md_running::Fed;
+use md_running::Opened;
+use md_running::Running;
+use numbers::lent_of;
+use numbers::no_lent;
+use numbers::running_of;
+
+mod numbers;
+
+// The numbers of each detector, in md.rs's order, and the places of the last growths: a mark is a u32.
+#[repr(C)]
+pub struct HostSymbols {
+    pub characters: u32,
+    pub punctuation: u32,
+    pub symbols: u32,
+    pub last: u32,
+}
+
+#[repr(C)]
+pub struct HostAccents {
+    pub characters: u32,
+    pub accentuated: u32,
+}
+
+#[repr(C)]
+pub struct HostUnprintable {
+    pub characters: u32,
+    pub unprintable: u32,
+}
+
+#[repr(C)]
+pub struct HostRanges {
+    pub characters: u32,
+    pub suspicious: u32,
+    pub seen: u32,
+    pub last: u32,
+}
+
+#[repr(C)]
+pub struct HostDoubled {
+    pub characters: u32,
+    pub successive: u32,
+    pub flags: u32,
+    pub base: u32,
+}
+
+#[repr(C)]
+pub struct HostWords {
+    pub characters: u32,
+    pub words: u32,
+    pub foreign: u32,
+    pub spoilt: u32,
+    pub bad: u32,
+    pub watch: u32,
+    pub accents: u32,
+    pub uppercase: u32,
+    pub length: u32,
+    pub last: u32,
+}
+
+#[repr(C)]
+pub struct HostStops {
+    pub wrong: u32,
+    pub cjk: u32,
+}
+
+#[repr(C)]
+pub struct HostArchaic {
+    pub characters: u32,
+    pub since: u32,
+    pub run: u32,
+    pub total: u32,
+    pub last: u32,
+    pub ascii: u32,
+    pub buf: u32,
+}
+
+#[repr(C)]
+pub struct HostGrowths {
+    pub symbols: u32,
+    pub accents: u32,
+    pub unprintable: u32,
+    pub ranges: u32,
+    pub doubled: u32,
+    pub words: u32,
+    pub stops: u32,
+    pub archaic: u32,
+}
+
+// A line of which some characters have arrived: its declared length, how many were received and how many of them fed, the threshold's bits and the mark of
+// having stopped; then the detectors, and where each last grew.
+#[repr(C)]
+pub struct HostRunning {
+    pub length: u32,
+    pub received: u32,
+    pub fed: u32,
+    pub threshold: u32,
+    pub stopped: u32,
+    pub symbols: HostSymbols,
+    pub accents: HostAccents,
+    pub unprintable: HostUnprintable,
+    pub ranges: HostRanges,
+    pub doubled: HostDoubled,
+    pub words: HostWords,
+    pub stops: HostStops,
+    pub archaic: HostArchaic,
+    pub grown: HostGrowths,
+}
+
+// The answer of opening: a refusal's number and place and a state of zeros, or zeros and the state.
+#[repr(C)]
+pub struct HostOpened {
+    pub number: u32,
+    pub place: u32,
+    pub state: HostRunning,
+}
+
+// What a feeding call leaves in the lent numbers, which are the very ones given where it refused; and the number received, or why it refused.
+pub struct LentFed {
+    pub state: HostRunning,
+    pub answer: Counted,
+}
+
+// A line of which none has arrived.
+pub fn open_lent(length: u32, threshold: f32, classes: &[u8], pairs: &[u8]) -> HostOpened
+    ensures { λ r. ⌜ r ≡ lent.hostOpened (openLine length threshold (now (classes .entry)) (now (pairs .entry))) ⌝ }
+{
+    match md_running::open_line(length, threshold, classes, pairs) {
+        Opened::Refused(why) => HostOpened {
+            number: why.number,
+            place: why.place,
+            state: no_lent(),
+        },
+        Opened::Running(s) => HostOpened {
+            number: ACCEPTED,
+            place: 0,
+            state: lent_of(s, f32::to_bits(s.threshold)),
+        },
+    }
+}
+
+// What is left of a line to which `s` has happened. Where nothing was fed, only the number received is another: marks stay as they were lent.
+fn next_lent(h: HostRunning, s: Running) -> HostRunning
+    ensures { λ r. ⌜ r ≡ lent.nextLent h s ⌝ }
+{
+    if (h.stopped != 0) | (s.received == h.received) {
+        let mut next = h;
+        next.received = s.received;
+        return next;
+    }
+    lent_of(s, h.threshold)
+}
+
+fn fed_lent(h: HostRunning, fed: Fed) -> LentFed
+    ensures { λ r. ⌜ r ≡ lent.fedLent h fed ⌝ }
+{
+    let state = fed.state;
+    let answer = fed.answer;
+    match answer {
+        Counted::Refused(why) => LentFed {
+            state: h,
+            answer: Counted::Refused(why),
+        },
+        Counted::Count(n) => LentFed {
+            state: next_lent(h, state),
+            answer: Counted::Count(n),
+        },
+    }
+}
+
+// One character of a line.
+pub fn feed_lent(h: HostRunning, point: u32, classes: &[u8], pairs: &[u8]) -> LentFed
+    ensures { λ r. ⌜ r ≡ lent.fedLent h (feedLine (lent.runningOf h) point (now (classes .entry)) (now (pairs .entry))) ⌝ }
+{
+    fed_lent(h, md_running::feed_line(running_of(h), point, classes, pairs))
+}
+
+// A chunk of characters of a line: all of them, or none.
+pub fn chunk_lent(h: HostRunning, text: &[u32], classes: &[u8], pairs: &[u8]) -> LentFed
+    ensures { λ r. ⌜ r ≡ lent.fedLent h (feedChunk (lent.runningOf h) (now (text .entry)) (now (classes .entry)) (now (pairs .entry))) ⌝ }
+{
+    fed_lent(h, md_running::feed_chunk(running_of(h), text, classes, pairs))
+}
+
+// The answer of a line that has arrived in full.
+pub fn close_lent(h: HostRunning) -> Scored
+    ensures { λ r. ⌜ r ≡ closeLine (lent.runningOf h) ⌝ }
+{
+    md_running::close_line(running_of(h))
+}
