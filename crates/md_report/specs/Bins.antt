@@ -21,11 +21,15 @@ LAST-BIN = 512
 unfoldable pub zeroBits : ℕ → Bool
 zeroBits ratio = eqb ratio 0x00000000 || eqb ratio 0x80000000
 
+-- "64 times the numerator over the denominator, rounded down"
+unfoldable pub parts : ℕ → ℕ → ℕ
+parts numerator denominator = 64 * numerator / denominator
+
 unfoldable pub binOf : ℕ → ℕ → ℕ → ℕ
 binOf ratio numerator denominator =
     cond (zeroBits ratio || eqb denominator 0)
     0
-    (cond (ltb LAST-BIN (64 * numerator / denominator)) LAST-BIN (64 * numerator / denominator))
+    (cond (ltb LAST-BIN (parts numerator denominator)) LAST-BIN (parts numerator denominator))
 
 -- the bin of the detector d in the line i
 unfoldable pub binAt : List ℕ → ℕ → ℕ → ℕ

@@ -1,7 +1,7 @@
 -- What a month's counts add up to, from the list of lines: the bins of each detector to the accepted lines (`bins-add-up`), with the refused to the lines given
 -- (`lines-add-up`), the refused of each number to the refused (`numbers-add-up`).
 -- Assumes nothing.
-use Prim.Native.Nat.{ℕ, zero, suc, _+_, _*_, _/_, _<_, _≤_}
+use Prim.Native.Nat.{ℕ, zero, suc, _+_, _<_, _≤_}
 use mathlib.Core.Path.{_≡_, refl, sym, ap, _∙_}
 use mathlib.Core.Bool.{Bool, true, false, cond, not, _&&_, _||_}
 use mathlib.Core.List.{List}
@@ -11,7 +11,7 @@ use borrow.Author.Tests.{ltb-false, eqb-true, eqb-false, eq-eqb, ne-eqb}
 use Rattle.base.proofs.Laws.Tests.{by-test, cond-both, by-bool}
 use Rattle.base.specs.Refusals.{ACCEPTED}
 use Rattle.md_report.specs.Rows.{linesIn, numberAt, acceptedAt}
-use Rattle.md_report.specs.Bins.{BINS, LAST-BIN, LAST-NUMBER, OTHER, sumTo, howMany, zeroBits, binOf, binAt, inBin, accepted, refused, kindOf, numbered}
+use Rattle.md_report.specs.Bins.{BINS, LAST-BIN, LAST-NUMBER, OTHER, sumTo, howMany, zeroBits, parts, binOf, binAt, inBin, accepted, refused, kindOf, numbered}
 use Rattle.md_report.proofs.Laws.Tally.{howMany-few, howMany-same}
 use Rattle.md_report.proofs.Laws.Sums.{sum-first, tally-adds-up, both-ways}
 
@@ -19,7 +19,7 @@ bin-small : (ratio n d : ℕ) → binOf ratio n d < BINS
 unfolding binOf
 bin-small ratio n d =
     cond-both (λ (b : ℕ). b < BINS) (zeroBits ratio || eqb d 0) _ _ (omega arith)
-    (by-test (λ (b : ℕ). b < BINS) (ltb LAST-BIN (64 * n / d)) _ _ (λ e. omega arith) (λ e. omega (arith, ltb-false LAST-BIN (64 * n / d) e)))
+    (by-test (λ (b : ℕ). b < BINS) (ltb LAST-BIN (parts n d)) _ _ (λ e. omega arith) (λ e. omega (arith, ltb-false LAST-BIN (parts n d) e)))
 
 pub bin-at-small : (rows : List ℕ) (d i : ℕ) → binAt rows d i < BINS
 unfolding binAt

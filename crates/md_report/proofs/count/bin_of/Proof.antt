@@ -2,7 +2,7 @@
 use mathlib.Core.Path.{_∙_, sym}
 use native.Mathlib.Omega.{arith}
 use borrow.Author.Tests.{eq-eqb, ne-eqb, lt-ltb, le-ltb}
-use Rattle.md_report.specs.Bins.{binOf}
+use Rattle.md_report.specs.Bins.{parts, binOf}
 use borrow.Author.Needs.{needs}
 use Rattle.md_report.proofs.count.bin_of.Statement.{statement}
 use Rattle.md_report.proofs.count.bin_of.Tie as tie
@@ -16,7 +16,7 @@ unfolding binOf
 returns-2 c = record { is = simp (sym (c .before .before .is-nil .ensures) ∙ c .before .if1 .left, eq-eqb _ _ (c .if2 .taken)); small = omega arith }
 
 returns-3 : tie.Need-returns-3
-unfolding binOf
+unfolding binOf parts
 returns-3 c =
     let at-is-nil = c .before .before .before in
     record {
@@ -25,7 +25,7 @@ returns-3 c =
     }
 
 returns-4 : tie.Need-returns-4
-unfolding binOf
+unfolding binOf parts
 returns-4 c =
     let at-is-nil = c .before .before .before in
     record {
