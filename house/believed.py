@@ -15,6 +15,7 @@ CALLS = {
     "md_utf8": ["mess_ratio_utf8", "mess_ratio_utf8_default"],
     "md_lines": ["score_lines"],
     "md_chooser": ["choose", "verdict"],
+    "md_second": ["second_score"],
     "md_reason": ["reason"],
     "cd": ["coherence_ratio", "coherence_ratio_default"],
     "cd_languages": ["check_languages", "check_included"],
@@ -35,6 +36,7 @@ STATEMENTS = [
     ("page", "RoundTrips", "read-after-write"),  # reading what was written gives the same text
     ("marked_cases", "Marked", "marked"),  # 01's cases (a) to (l)
     ("md_growth", "Growth", "last-growth"),  # 02 [8]: the state keeps the index of each detector's last growth
+    ("md_second", "Agreed", "second-agrees"),  # 02 [10]: the two engines answer alike
     ("ring", "History", "history"),  # 02 [11]: the accepted puts of a history of calls are the flushed records and those in the ring
     ("md_report", "Report", "bins-add-up"),  # 02 [13]: the bins of each detector add up to the accepted lines
     ("md_report", "Report", "lines-add-up"),  # and that sum with the refused lines is the number of lines given

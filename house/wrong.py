@@ -10,7 +10,7 @@ is used in many functions. Each program is a paragraph:
     old: ..
     new: ..
 
-FUNCTION is the folder of its proof below proofs/ (or, of a law, its file below proofs/ without .antt), NEED the declaration there at which it
+FUNCTION is the folder of its proof below proofs/ (of functions that call each other the one folder +a+b; of a law, its file below proofs/ without .antt), NEED the declaration there at which it
 must be refused."""
 import re
 from pathlib import Path
@@ -101,6 +101,15 @@ def folder(file, function):
     return function if module in ("lib", "main") else f"{module}/{function}"
 
 
+def cycle_of(crate, place):
+    """The folder of a function's proof: that of the cycle of calls that it is in, if it is in one."""
+    parent, _, name = place.rpartition("/")
+    for path in sorted((crate / "proofs" / parent).glob("+*")):
+        if name in path.name.split("+"):
+            return f"{parent}/{path.name}" if parent else path.name
+    return place
+
+
 def proof_file(crate, place):
     """The file in which a refusal at this place stands."""
     for path in (crate / "proofs" / place / "Proof.antt", crate / "proofs" / f"{place}.antt", crate / f"{place}.antt"):
@@ -152,7 +161,7 @@ def check(edit):
             if function in seen:
                 raise edit.says(f"{program.name} and {seen[function]} change the same function, {function}")
             seen[function] = program.name
-            if {place for place, _ in program.refused} != {function}:
+            if {place for place, _ in program.refused} != {cycle_of(crate, function)}:
                 raise edit.says(f"{program.name}: it changes {function}, and must be refused there")
 
 
