@@ -5,19 +5,40 @@
 use Rattle.base.specs.declared.Counted.{Counted}
 use Rattle.base.specs.Counted.{values}
 use Rattle.base.specs.Numbers.{bump}
+use Rattle.ratio.specs.declared.Shown.{Shown}
+use Rattle.ratio.specs.declared.EightShown.{EightShown}
 use Rattle.md.specs.declared.Scored.{Scored}
 use Rattle.md.specs.Values.{Values as ScoreValues, values as scoreValues}
 use Rattle.md_chooser.specs.declared.Judged.{Judged}
 use Rattle.md_chooser.specs.Choose.{values as verdictValues}
 use Rattle.ring.specs.declared.Ringed.{Ringed}
 use Rattle.ring.specs.Calls.{values as ringValues}
+use Rattle.host.specs.declared.HostCounts.{HostCounts}
 use Rattle.host.specs.declared.HostRead.{HostRead}
 use Rattle.host.specs.declared.HostRing.{HostRing}
 use Rattle.host.specs.declared.HostScore.{HostScore}
+use Rattle.host.specs.declared.HostShown.{HostShown}
 use Rattle.host.specs.declared.HostVerdict.{HostVerdict}
 
 unfoldable pub hostCounted : Counted → HostRead
 hostCounted a = record { number = values a .number; place = values a .place; count = values a .count }
+
+-- what is shown of one detector, and of the eight (02 [7])
+unfoldable pub hostShown : Shown → HostShown
+hostShown s = record { num = s .num; den = s .den; cut = bump (s .cut) }
+
+unfoldable pub hostCounts : EightShown → HostCounts
+hostCounts e =
+    record {
+      symbols = hostShown (e .symbols);
+      accents = hostShown (e .accents);
+      unprintable = hostShown (e .unprintable);
+      ranges = hostShown (e .ranges);
+      doubled = hostShown (e .doubled);
+      words = hostShown (e .words);
+      stops = hostShown (e .stops);
+      archaic = hostShown (e .archaic);
+    }
 
 unfoldable pub flatScore : ScoreValues → HostScore
 flatScore v =
@@ -28,6 +49,7 @@ flatScore v =
       sum = v .sum;
       fed = v .fed;
       stopped = bump (v .stopped);
+      counts = hostCounts (v .counts);
     }
 
 unfoldable pub hostScore : Scored → HostScore

@@ -1,12 +1,15 @@
 // The flat form of each answer: no enum crosses to a host.
 ghost use mathlib.Core.Path.{_≡_};
 ghost use Rattle.host.specs.Chosen.{hostChosen};
-ghost use Rattle.host.specs.Host.{hostCounted, hostScore, hostVerdict, hostRing};
+ghost use Rattle.ratio.specs.Shown.{noneShown};
+ghost use Rattle.host.specs.Host.{hostCounted, hostShown, hostCounts, hostScore, hostVerdict, hostRing};
 ghost use Rattle.host.specs.Matches.{hostMerged};
 use crate::HostChosen;
+use crate::HostCounts;
 use crate::HostRead;
 use crate::HostRing;
 use crate::HostScore;
+use crate::HostShown;
 use crate::HostVerdict;
 use base::Counted;
 use base::one;
@@ -15,6 +18,8 @@ use cd_list::HostRanking;
 use md::Scored;
 use md_chooser::Judged;
 use md_chooser::Part;
+use ratio::EightShown;
+use ratio::Shown;
 use ratio::rounding::no_ratios;
 use ring::Ringed;
 
@@ -35,6 +40,53 @@ pub fn flat_counted(counted: Counted) -> HostRead
     }
 }
 
+// What is shown of one detector; the mark is 1 or 0.
+fn flat_shown(s: Shown) -> HostShown
+    ensures { λ r. ⌜ r ≡ hostShown s ⌝ }
+{
+    HostShown {
+        num: s.num,
+        den: s.den,
+        cut: one(s.cut),
+    }
+}
+
+fn flat_counts(e: EightShown) -> HostCounts
+    ensures { λ r. ⌜ r ≡ hostCounts e ⌝ }
+{
+    HostCounts {
+        symbols: flat_shown(e.symbols),
+        accents: flat_shown(e.accents),
+        unprintable: flat_shown(e.unprintable),
+        ranges: flat_shown(e.ranges),
+        doubled: flat_shown(e.doubled),
+        words: flat_shown(e.words),
+        stops: flat_shown(e.stops),
+        archaic: flat_shown(e.archaic),
+    }
+}
+
+// What a refusal shows: zeros.
+fn no_counts() -> HostCounts
+    ensures { λ r. ⌜ r ≡ hostCounts noneShown ⌝ }
+{
+    let none = HostShown {
+        num: 0,
+        den: 0,
+        cut: 0,
+    };
+    HostCounts {
+        symbols: none,
+        accents: none,
+        unprintable: none,
+        ranges: none,
+        doubled: none,
+        words: none,
+        stops: none,
+        archaic: none,
+    }
+}
+
 pub fn flat_scored(scored: Scored) -> HostScore
     ensures { λ r. ⌜ r ≡ hostScore scored ⌝ }
 {
@@ -46,9 +98,11 @@ pub fn flat_scored(scored: Scored) -> HostScore
             sum: 0.0,
             fed: 0,
             stopped: 0,
+            counts: no_counts(),
         },
         Scored::Score(s) => {
             let ratios = s.ratios;
+            let counts = flat_counts(s.counts);
             HostScore {
                 number: ACCEPTED,
                 place: 0,
@@ -56,6 +110,7 @@ pub fn flat_scored(scored: Scored) -> HostScore
                 sum: s.sum,
                 fed: s.fed,
                 stopped: one(s.stopped),
+                counts,
             }
         }
     }

@@ -40,8 +40,29 @@ pub struct HostRead {
     pub count: u32,
 }
 
-// The answer of scoring: a refusal's number and place, the eight ratios in md.rs's order, their sum, the characters fed, and 1 where the
-// scan stopped early.
+// What is shown of a detector: its two counts, and 1 where its ratio was cut off.
+#[repr(C)]
+pub struct HostShown {
+    pub num: u32,
+    pub den: u32,
+    pub cut: u32,
+}
+
+// What is shown of the eight, in md.rs's order.
+#[repr(C)]
+pub struct HostCounts {
+    pub symbols: HostShown,
+    pub accents: HostShown,
+    pub unprintable: HostShown,
+    pub ranges: HostShown,
+    pub doubled: HostShown,
+    pub words: HostShown,
+    pub stops: HostShown,
+    pub archaic: HostShown,
+}
+
+// The answer of scoring: a refusal's number and place, the eight ratios in md.rs's order, their sum, the characters fed, 1 where the scan
+// stopped early, and the counts of each ratio.
 #[repr(C)]
 pub struct HostScore {
     pub number: u32,
@@ -50,6 +71,7 @@ pub struct HostScore {
     pub sum: f32,
     pub fed: u32,
     pub stopped: u32,
+    pub counts: HostCounts,
 }
 
 // The verdict: the text taken and the text refused, 1 or 2, each 0 for none, and the refusal's number and place.

@@ -1,4 +1,5 @@
 pub mod Accepted
+pub mod Counts
 pub mod Default
 pub mod DemandThree
 pub mod Lent

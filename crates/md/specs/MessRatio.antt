@@ -17,9 +17,9 @@ use Rattle.md.specs.declared.Limit.the-variants.{Threshold, Never}
 use Rattle.md.specs.declared.Scored.{Scored}
 use Rattle.md.specs.Scan.{unless, noClass, acceptedScore}
 
--- "Without a threshold f32 0.2 is used"
+-- "A call without a threshold now uses f32 0.15" (02 [5]; 01 had 0.2)
 abbrev pub DEFAULT-THRESHOLD : Float
-DEFAULT-THRESHOLD = ofBits binary32 0x3E4CCCCD
+DEFAULT-THRESHOLD = ofBits binary32 0x3E19999A
 
 -- 1: "over .. 65,536 code points"
 unfoldable pub tooLong : List ℕ → Cause

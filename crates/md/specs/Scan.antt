@@ -18,8 +18,9 @@ use Rattle.classes.specs.declared.Found.the-variants.{At, Nothing}
 use Rattle.classes.specs.Lookup.{classOf, missing}
 use Rattle.classes.specs.Pairs.{suspicious}
 use Rattle.md_eight.specs.declared.Detectors.{Detectors}
-use Rattle.md_eight.specs.Detectors.{start, feed, ratios, lastRange}
+use Rattle.md_eight.specs.Detectors.{start, feed, counts, ratios, lastRange}
 use Rattle.ratio.specs.Eight.{sum}
+use Rattle.ratio.specs.Shown.{eightShown}
 use Rattle.md.specs.declared.Limit.{Limit}
 use Rattle.md.specs.declared.Limit.the-variants.{Threshold, Never}
 use Rattle.md.specs.declared.Scored.{Scored}
@@ -61,9 +62,11 @@ module _ (classes pairs text : List ℕ) where
   unfoldable pub stops : Limit → ℕ → Bool
   stops limit i = checkpoint (length text) i && reaches limit (sumOf (stateAt (i + 1)))
 
--- "The score answer holds eight ratios and their sum as f32, [..] characters fed; whether it stopped"
+-- "The score answer holds eight ratios and their sum as f32, [..] characters fed; whether it stopped"; and each ratio "brings the numerator [..], the
+-- denominator, and a cut-off mark" (02 [7])
 unfoldable pub scored : Detectors → ℕ → Bool → Scored
-scored s n early = Score (record { ratios = ratios s; sum = sumOf s; fed = n; stopped = early })
+scored s n early =
+    Score (record { ratios = ratios s; sum = sumOf s; fed = n; stopped = early; counts = eightShown (counts s) (ratios s) })
 
 -- the index of the stop, `total text` where there is none
 abbrev pub stopOf : List ℕ → List ℕ → List ℕ → Limit → ℕ

@@ -6,6 +6,7 @@ use base::Cause;
 use base::Refusal;
 use base::limits::LONGEST_TEXT;
 use base::refusals::TOO_LONG;
+use ratio::EightShown;
 use ratio::Ratios;
 use scan::scan_text;
 use tables::check_lent;
@@ -15,8 +16,8 @@ pub mod scan;
 pub mod tables;
 mod text;
 
-// f32 0.2, which 01 uses where no threshold is given.
-pub const DEFAULT_THRESHOLD: f32 = 0.2;
+// f32 0.15, which is used where no threshold is given: stricter than the 0.2 of 01 (02 [5]).
+pub const DEFAULT_THRESHOLD: f32 = 0.15;
 
 // When a scan stops early: where the sum is at or above a threshold at a checkpoint, or never.
 pub enum Limit {
@@ -24,12 +25,13 @@ pub enum Limit {
     Never,
 }
 
-// What 01's score answer holds: the eight ratios, their sum, the characters fed, and whether the scan stopped early.
+// What 01's score answer holds: the eight ratios, their sum, the characters fed, and whether the scan stopped early; and 02's counts of each ratio.
 pub struct Score {
     pub ratios: Ratios,
     pub sum: f32,
     pub fed: u32,
     pub stopped: bool,
+    pub counts: EightShown,
 }
 
 pub enum Scored {

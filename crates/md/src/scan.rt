@@ -27,6 +27,7 @@ use classes::Class;
 use classes::Found;
 use md_eight::Detectors;
 use ratio::rounding;
+use ratio::telling;
 
 // What the lookup finds for the character at i, the built-in table being lent.
 fn class_at(text: &[u32], i: usize, table: &Table, classes: &[u8]) -> Found
@@ -84,6 +85,7 @@ pub fn scored(s: Detectors, fed: u32, stopped: bool) -> Scored
         sum: rounding::sum(ratios),
         fed: fed,
         stopped: stopped,
+        counts: telling::eight_shown(s.counts(), ratios),
     })
 }
 

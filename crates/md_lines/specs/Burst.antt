@@ -18,6 +18,7 @@ use Rattle.classes.specs.Check.{badClasses}
 use Rattle.classes.specs.Pairs.{badPairs}
 use Rattle.ratio.specs.Eight.{DETECTORS, bits}
 use Rattle.ratio.specs.Rounded.{bitsOf}
+use Rattle.ratio.specs.Shown.{NUMBERS-SHOWN, shownNumbers}
 use Rattle.md.specs.declared.Scored.{Scored}
 use Rattle.ratio.specs.Finite.{notFinite}
 use Rattle.md.specs.Values.{Values, values}
@@ -26,17 +27,17 @@ use Rattle.md_lines.specs.Lines.{linesOf}
 
 -- u32 of the output for each line
 abbrev pub NUMBERS-PER-LINE : ℕ
-NUMBERS-PER-LINE = DETECTORS + 5
+NUMBERS-PER-LINE = DETECTORS + 5 + NUMBERS-SHOWN
 
 -- bytes of a burst
 abbrev pub LONGEST-BURST : ℕ
 LONGEST-BURST = 16777216
 
--- 01's values of an answer as numbers: a refusal's number and place, the eight ratios and their sum, the
--- characters fed, and 1 where the scan stopped early
+-- the values of an answer as numbers: a refusal's number and place, the eight ratios and their sum, the characters fed, 1 where the scan stopped
+-- early, and of each detector numerator, denominator and mark
 unfoldable pub numbers : Values → List ℕ
 numbers v =
-    v .number ∷ v .place ∷ (bits (v .ratios) ++ (bitsOf (v .sum) ∷ v .fed ∷ bump (v .stopped) ∷ []))
+    v .number ∷ v .place ∷ (bits (v .ratios) ++ (bitsOf (v .sum) ∷ v .fed ∷ bump (v .stopped) ∷ shownNumbers (v .counts)))
 
 unfoldable pub rowNumbers : Scored → List ℕ
 rowNumbers a = numbers (values a)

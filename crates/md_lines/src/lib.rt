@@ -9,6 +9,7 @@ use base::refusals::NO_ROOM;
 use base::refusals::TOO_LONG;
 use md::tables::check_lent;
 use ratio::DETECTORS;
+use ratio::telling::NUMBERS_SHOWN;
 use rows::put_rows;
 use split::count_lines;
 
@@ -16,9 +17,9 @@ mod row;
 mod rows;
 mod split;
 
-// u32 of the output for each line: a refusal's number and place, the eight ratios and their sum as bits, the characters fed, and 1 where the
-// scan stopped early.
-pub const NUMBERS_PER_LINE: usize = DETECTORS + 5;
+// u32 of the output for each line: a refusal's number and place, the eight ratios and their sum as bits, the characters fed, 1 where the scan
+// stopped early, and the counts of each ratio.
+pub const NUMBERS_PER_LINE: usize = DETECTORS + 5 + NUMBERS_SHOWN;
 
 // Bytes of a burst.
 pub const LONGEST_BURST: usize = 16777216;

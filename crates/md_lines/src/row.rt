@@ -14,8 +14,10 @@ use md::Score;
 use md::Scored;
 use ratio::DETECTORS;
 use ratio::rounding::bits;
+use ratio::telling::shown_numbers;
 
-// Where the numbers stand in a row: the refusal's number and place, the ratios, their sum, the characters fed and the mark of having stopped.
+// Where the numbers stand in a row: the refusal's number and place, the ratios, their sum, the characters fed, the mark of having stopped, and
+// the counts of each ratio.
 const NUMBER_AT: usize = 0;
 
 const PLACE_AT: usize = 1;
@@ -27,6 +29,8 @@ const SUM_AT: usize = RATIOS_AT + DETECTORS;
 const FED_AT: usize = SUM_AT + 1;
 
 const STOPPED_AT: usize = SUM_AT + 2;
+
+const COUNTS_AT: usize = SUM_AT + 3;
 
 // The numbers of a score, whose floats are no NaN and so have bits.
 fn row_of_score(s: Score) -> [u32; NUMBERS_PER_LINE]
@@ -40,6 +44,8 @@ fn row_of_score(s: Score) -> [u32; NUMBERS_PER_LINE]
     row[SUM_AT] = f32::to_bits(s.sum);
     row[FED_AT] = s.fed;
     row[STOPPED_AT] = one(s.stopped);
+    let counts = shown_numbers(s.counts);
+    put_row(&counts, &mut row, COUNTS_AT);
     row
 }
 

@@ -11,4 +11,5 @@ pub mod Once
 pub mod Operations
 pub mod Parts
 pub mod Rounded
+pub mod Shown
 pub mod Summing

@@ -4,4 +4,5 @@ pub mod Rounded
 pub mod Demand
 pub mod Finite
 pub mod CutOffs
+pub mod Shown
 pub mod Inner

@@ -6,6 +6,7 @@ ghost use Rattle.ratio.specs.Fraction.{atLeast, countsOf, fractionOf};
 
 pub mod finite;
 pub mod rounding;
+pub mod telling;
 
 // How many detectors there are.
 pub const DETECTORS: usize = 8;
@@ -46,6 +47,25 @@ pub struct Ratios {
     pub words: f32,
     pub stops: f32,
     pub archaic: f32,
+}
+
+// What an answer shows of a detector beside its ratio: the two counts, and whether the ratio was cut off.
+pub struct Shown {
+    pub num: u32,
+    pub den: u32,
+    pub cut: bool,
+}
+
+// What it shows of the eight, in md.rs's order.
+pub struct EightShown {
+    pub symbols: Shown,
+    pub accents: Shown,
+    pub unprintable: Shown,
+    pub ranges: Shown,
+    pub doubled: Shown,
+    pub words: Shown,
+    pub stops: Shown,
+    pub archaic: Shown,
 }
 
 // The counts of a fraction, and whether no cut-off applies.

@@ -13,6 +13,7 @@ use Rattle.base.specs.declared.Refusal.{Refusal}
 use Rattle.ratio.specs.declared.Ratios.{Ratios}
 use Rattle.ratio.specs.Rounded.{ZERO, bitsOf}
 use Rattle.ratio.specs.Eight.{noRatios, bits}
+use Rattle.ratio.specs.Shown.{noneShown, shownNumbers, numbersOf}
 use Rattle.md.specs.declared.Score.{Score}
 use Rattle.md.specs.declared.Scored.{Scored}
 use Rattle.md.specs.declared.Scored.the-variants.{Score as Told, Refused as Unscored}
@@ -25,11 +26,13 @@ use Rattle.ring.specs.declared.Kept.{Kept}
 use Rattle.ring.specs.declared.Ringed.{Ringed}
 use Rattle.ring.specs.declared.Ringed.the-variants.{Kept as Keep, Refused as NotKept}
 use Rattle.ring.specs.Calls.{values as ringValues}
+use Rattle.host.specs.declared.HostCounts.{HostCounts}
 use Rattle.host.specs.declared.HostRead.{HostRead}
 use Rattle.host.specs.declared.HostRing.{HostRing}
 use Rattle.host.specs.declared.HostScore.{HostScore}
+use Rattle.host.specs.declared.HostShown.{HostShown}
 use Rattle.host.specs.declared.HostVerdict.{HostVerdict}
-use Rattle.host.specs.Host.{hostCounted, hostScore, hostVerdict, hostRing, flatScore}
+use Rattle.host.specs.Host.{hostCounted, hostShown, hostCounts, hostScore, hostVerdict, hostRing, flatScore}
 
 -- what a refusal becomes, and a count
 abbrev pub refusedRead : Refusal → HostRead
@@ -46,8 +49,8 @@ pub counted-count : (a : Counted) (n : ℕ) → a ≡ Count n → countedRead n 
 unfolding hostCounted values
 counted-count a n e = rw e
 
-abbrev pub refusedScore : Refusal → Ratios → HostScore
-refusedScore r ratios =
+abbrev pub refusedScore : Refusal → Ratios → HostCounts → HostScore
+refusedScore r ratios counts =
     record {
       number = r .number;
       place = r .place;
@@ -55,10 +58,11 @@ refusedScore r ratios =
       sum = ZERO;
       fed = 0;
       stopped = 0;
+      counts = counts;
     }
 
-abbrev pub toldScore : Score → ℕ → HostScore
-toldScore s stopped =
+abbrev pub toldScore : Score → HostCounts → ℕ → HostScore
+toldScore s counts stopped =
     record {
       number = ACCEPTED;
       place = 0;
@@ -66,23 +70,34 @@ toldScore s stopped =
       sum = s .sum;
       fed = s .fed;
       stopped = stopped;
+      counts = counts;
     }
 
-pub score-refused : (a : Scored) (r : Refusal) (n : Ratios) → a ≡ Unscored r → n ≡ noRatios → refusedScore r n ≡ hostScore a
+pub score-refused : (a : Scored) (r : Refusal) (n : Ratios) (c : HostCounts)
+    → a ≡ Unscored r → n ≡ noRatios → c ≡ hostCounts noneShown → refusedScore r n c ≡ hostScore a
 unfolding hostScore flatScore scoreValues
-score-refused a r n e f = rw (e, f)
+score-refused a r n c e f g = rw (e, f, g)
 
-pub score-told : (a : Scored) (s : Score) (k : ℕ) → a ≡ Told s → k ≡ bump (s .stopped) → toldScore s k ≡ hostScore a
+pub score-told : (a : Scored) (s : Score) (c : HostCounts) (k : ℕ)
+    → a ≡ Told s → c ≡ hostCounts (s .counts) → k ≡ bump (s .stopped) → toldScore s c k ≡ hostScore a
 unfolding hostScore flatScore scoreValues
-score-told a s k e f = rw (e, f)
+score-told a s c k e g f = rw (e, f, g)
 
 -- the fields of a flat score, in their order
+abbrev pub shownFields : HostShown → List ℕ
+shownFields s = s .num ∷ s .den ∷ s .cut ∷ []
+
+abbrev pub countFields : HostCounts → List ℕ
+countFields e =
+    shownFields (e .symbols) ++ shownFields (e .accents) ++ shownFields (e .unprintable) ++ shownFields (e .ranges)
+    ++ shownFields (e .doubled) ++ shownFields (e .words) ++ shownFields (e .stops) ++ shownFields (e .archaic)
+
 abbrev pub fields : HostScore → List ℕ
 fields s =
-    s .number ∷ s .place ∷ (bits (s .ratios) ++ (bitsOf (s .sum) ∷ s .fed ∷ s .stopped ∷ []))
+    s .number ∷ s .place ∷ (bits (s .ratios) ++ (bitsOf (s .sum) ∷ s .fed ∷ s .stopped ∷ countFields (s .counts)))
 
 pub row-fields : (a : Scored) → rowNumbers a ≡ fields (hostScore a)
-unfolding rowNumbers numbers hostScore flatScore
+unfolding rowNumbers numbers shownNumbers numbersOf hostScore flatScore hostCounts hostShown
 row-fields a = refl
 
 abbrev pub told : ℕ → ℕ → ℕ → ℕ → HostVerdict

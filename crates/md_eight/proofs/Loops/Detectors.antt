@@ -1,7 +1,8 @@
 -- What holds of the eight detectors after k characters: a step has room, the eight ratios can be made, and seven have 01's bounds
--- ("All but CJK stops have ratios of at most 2, 1, 8, 2, 4, 1 and 1, in order"). And the last range has a row in the pair table.
+-- ("All but CJK stops have ratios of at most 2, 1, 8, 2, 4, 1 and 1, in order"), and so have the counts that are shown with them. And the last
+-- range has a row in the pair table.
 -- Assumes nothing.
-use Prim.Native.Nat.{ℕ, _+_, _≤_}
+use Prim.Native.Nat.{ℕ, _+_, _*_, _≤_}
 use mathlib.Core.Path.{_≡_}
 use mathlib.Core.Bool.{Bool, true}
 use native.Mathlib.Omega.{arith}
@@ -10,6 +11,8 @@ use lib.Ieee.{Float, binary32, ofInt, le}
 use Rattle.base.specs.Inner.Limits.{LARGEST}
 use Rattle.classes.specs.declared.Class.{Class}
 use Rattle.ratio.specs.declared.Ratios.{Ratios}
+use Rattle.ratio.specs.declared.EightShown.{EightShown}
+use Rattle.ratio.specs.Shown.{shown, eightShown}
 use Rattle.ratio.specs.Eight.{fractionsOf, ratios as ratiosOf}
 use Rattle.ratio.specs.Inner.Eight.{EachProper}
 use Rattle.ratio.proofs.Laws.Rounded.{ratio-at-most}
@@ -63,6 +66,16 @@ pub record AtMost (r : Ratios) : Type 0 where
   pub doubled : le (r .doubled) (whole 4) ≡ true
   pub words : le (r .words) (whole 1) ≡ true
   pub archaic : le (r .archaic) (whole 1) ≡ true
+
+-- the same of the counts that are shown: numerator at most k times denominator
+pub record CountsAtMost (e : EightShown) : Type 0 where
+  pub symbols : e .symbols .num ≤ 2 * e .symbols .den
+  pub accents : e .accents .num ≤ 1 * e .accents .den
+  pub unprintable : e .unprintable .num ≤ 8 * e .unprintable .den
+  pub ranges : e .ranges .num ≤ 2 * e .ranges .den
+  pub doubled : e .doubled .num ≤ 4 * e .doubled .den
+  pub words : e .words .num ≤ 1 * e .words .den
+  pub archaic : e .archaic .num ≤ 1 * e .archaic .den
 
 infixr 40 _and_
 -- one element more of those that something holds of
@@ -124,6 +137,19 @@ module _ (k : ℕ) (s : Detectors) (w : Within k s) where
         doubled = ratio-at-most 4 _ (doubled.within-small k (s .doubled) (w .doubled) h) (doubled.counts-bound k (s .doubled) (w .doubled));
         words = ratio-at-most 1 _ (words.within-small k (s .words) (w .words) h) (words.counts-bound k (s .words) (w .words));
         archaic = ratio-at-most 1 _ (archaic.within-small k (s .archaic) (w .archaic) h) (archaic.counts-bound k (s .archaic) (w .archaic));
+      }
+
+  pub counts-at-most : CountsAtMost (eightShown (counts s) (ratios s))
+  unfolding eightShown shown counts
+  counts-at-most =
+      record {
+        symbols = symbols.counts-bound k (s .symbols) (w .symbols);
+        accents = accents.counts-bound k (s .accents) (w .accents);
+        unprintable = unprintable.counts-bound k (s .unprintable) (w .unprintable);
+        ranges = ranges.counts-bound k (s .ranges) (w .ranges);
+        doubled = doubled.counts-bound k (s .doubled) (w .doubled);
+        words = words.counts-bound k (s .words) (w .words);
+        archaic = archaic.counts-bound k (s .archaic) (w .archaic);
       }
 
 -- the last range is at most m where the characters' ranges are

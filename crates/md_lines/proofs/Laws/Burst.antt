@@ -1,10 +1,11 @@
 -- One law for each way in which `score_lines` returns (`over`, `faulty`, `no-room`, `scored`); the row of each case of an answer
--- (`row-refused`, `row-told`); and that a line has NUMBERS-PER-LINE numbers (`row-length`, `rows-length`).
+-- (`row-refused`, `row-told`, `row-room`); and that a line has NUMBERS-PER-LINE numbers (`row-length`, `rows-length`).
 -- Assumes nothing.
 use Prim.Native.Nat.{ℕ, _+_, _*_, _≤_, _<_}
 use mathlib.Core.Path.{_≡_, refl, sym, ap, _∙_}
 use mathlib.Core.List.{List, [], _∷_, _++_}
 use native.Mathlib.Omega.{arith}
+use lib.Dec.{lit≤}
 use lib.Ieee.{Float, ofBits, toBits}
 use lib.ListN.{length, replicate, set, length-append}
 use borrow.Author.Tests.{lt-ltb, le-ltb}
@@ -19,8 +20,11 @@ use Rattle.base.specs.Refusals.{ACCEPTED, TOO-LONG, NO-ROOM}
 use Rattle.base.specs.declared.Refusal.{Refusal}
 use Rattle.base.proofs.Laws.Causes.{first-given, first-passed, first-front, first-past}
 use Rattle.base.proofs.Laws.Counted.{counted-allowed, counted-refused, counted-at, after-allowed, after-refused}
+use Rattle.ratio.specs.declared.EightShown.{EightShown}
+use Rattle.ratio.specs.declared.Ratios.{Ratios}
 use Rattle.ratio.specs.Eight.{DETECTORS, bits}
 use Rattle.ratio.specs.Rounded.{bitsOf}
+use Rattle.ratio.specs.Shown.{shownNumbers, numbersOf}
 use Rattle.md.specs.declared.Score.{Score}
 use Rattle.md.specs.declared.Scored.{Scored}
 use Rattle.md.specs.declared.Scored.the-variants.{Score as Told, Refused as Unscored}
@@ -31,25 +35,38 @@ use Rattle.md_lines.specs.Lines.{linesOf}
 use Rattle.md_lines.specs.Burst.{NUMBERS-PER-LINE, LONGEST-BURST, numbers, rowNumbers, rows, rowOf, manyBytes, noRoom, causes, answer, outAfter}
 
 pub row-length : (a : Scored) → length (rowNumbers a) ≡ NUMBERS-PER-LINE
-unfolding rowNumbers numbers bits
+unfolding rowNumbers numbers bits shownNumbers numbersOf
 row-length a = refl
 
 -- a row of zeros in which the numbers of a refusal were put, and those of a score
 pub row-refused : (r : Refusal) → set (set (replicate NUMBERS-PER-LINE 0) 0 (r .number)) 1 (r .place) ≡ rowNumbers (Unscored r)
-unfolding rowNumbers numbers values bits ofBits toBits
+unfolding rowNumbers numbers values bits shownNumbers numbersOf ofBits toBits
 row-refused r = refl
 
-pub row-told : (s : Score) (ratios : List ℕ) (stopped : ℕ) → ratios ≡ bits (s .ratios) → stopped ≡ bump (s .stopped)
-    → set
+pub row-told : (s : Score) (ratios : List ℕ) (stopped : ℕ) (counts : List ℕ)
+    → ratios ≡ bits (s .ratios)
+    → stopped ≡ bump (s .stopped)
+    → counts ≡ shownNumbers (s .counts)
+    → put
+    (set
     (set
     (set (put (set (replicate NUMBERS-PER-LINE 0) 0 ACCEPTED) 2 ratios) (2 + DETECTORS) (bitsOf (s .sum)))
     (3 + DETECTORS)
     (s .fed))
     (4 + DETECTORS)
-    stopped
+    stopped)
+    (5 + DETECTORS)
+    counts
     ≡ rowNumbers (Told s)
-unfolding rowNumbers numbers values bits put
-row-told s ratios stopped d e = rw (d, e)
+unfolding rowNumbers numbers values bits shownNumbers numbersOf put
+row-told s ratios stopped counts d e f = rw (d, e, f)
+
+-- what stands before the counts leaves room for them
+pub row-room : (r : Ratios) (e : EightShown) (ratios counts : List ℕ) (a b c : ℕ) → ratios ≡ bits r → counts ≡ shownNumbers e
+    → 5 + DETECTORS + length counts
+    ≤ length (set (set (set (put (set (replicate NUMBERS-PER-LINE 0) 0 ACCEPTED) 2 ratios) (2 + DETECTORS) a) (3 + DETECTORS) b) (4 + DETECTORS) c)
+unfolding bits shownNumbers numbersOf put
+row-room r e ratios counts a b c f g = rw (f, g) (lit≤ tt)
 
 module _ (threshold : Float) (classes pairs : List ℕ) where
   pub rows-none : rows threshold classes pairs [] ≡ []

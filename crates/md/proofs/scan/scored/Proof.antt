@@ -1,4 +1,4 @@
--- The ratios and their sum are made once from the state that the definition names. Assumes nothing.
+-- The ratios, their sum and the counts are made once from the state that the definition names. Assumes nothing.
 use Rattle.md.specs.Scan.{scored, sumOf}
 use borrow.Author.Needs.{needs}
 use Rattle.md.proofs.scan.scored.Statement.{statement}
@@ -9,4 +9,11 @@ unfolding scored sumOf
 returns c = cc
 
 pub scored-spec : {M : Type 1} → statement M
-scored-spec = tie.close (tie.spec (λ c κs. search needs) (λ c κs. search needs) returns)
+scored-spec =
+    tie.close
+    (tie.spec
+    (λ c κs. search needs)
+    (λ c κs. search needs)
+    (λ c κs. search needs)
+    (λ c κs. search needs)
+    returns)
