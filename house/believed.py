@@ -28,6 +28,7 @@ CALLS = {
 # Statements that are promises themselves.
 STATEMENTS = [
     ("md", "DemandThree", "demand-three"),  # demand 3
+    ("md", "Counts", "counts-so"),  # 02 [7]: what the counts of an answer say of its ratios and of demand 3's fractions
     ("utf8", "Read", "accepted-encodes"),  # the reader's text is the one whose encoding the bytes are
     ("utf8_write", "RoundTrips", "written-bytes"),  # the bytes written are the encodings of the text, one after the other
     ("utf8_write", "RoundTrips", "written-read"),  # reading what was written gives the text

@@ -4,7 +4,7 @@ use crate::aimed::{self, AIMS, Shelves};
 use crate::library::Lent;
 use crate::tables::{self, BUILTIN_END, Record};
 use crate::texts::Alphabet;
-use crate::{LONGEST_TEXT, Run, sum_after};
+use crate::{DEFAULT_THRESHOLD, LONGEST_TEXT, Run, sum_after};
 use oracle::open::LENT;
 
 const NEVER: f32 = 1000.0;
@@ -74,19 +74,20 @@ impl Run {
         }
     }
 
-    // The threshold that the default call takes, f32 0.2: sums of just that, of the floats next to it, and of the fractions next to it.
+    // The threshold that the default call takes, f32 0.15: sums of just that, of the floats next to it, and of the fractions next to it; and the 0.2
+    // that it was before.
     pub fn aimed_default(&mut self, times: usize, lent: &Lent) {
         for at in 0..times {
-            // k doubled accents over n letters and no other ratio: 2k/n
-            let (k, n) = [(2, 20), (3, 30), (1, 10), (2, 21), (2, 19), (3, 29), (3, 31)][at % 7];
-            let mut text: Vec<u32> = (0..k).flat_map(|_| [0x6F, 0xE9, 0xE8]).collect();
-            text.resize(n, 0x6F);
-            text.resize(31 + self.random.below(2), 0x20);
+            // k doubled accents over n letters and no other ratio: 2k/n; the accents stand last, so that no checkpoint before the end sees them
+            let (k, n) = [(3, 40), (2, 27), (2, 26), (3, 39), (3, 41), (2, 20), (2, 19)][at % 7];
+            let mut text = vec![0x20; 63 - n + self.random.below(2)];
+            text.extend(vec![0x6F; n - 3 * k]);
+            text.extend((0..k).flat_map(|_| [0x6F, 0xE9, 0xE8]));
             self.beside_the_default(&text, lent);
         }
-        // of 160 characters 2 unprintable, one doubled accent over 32 Latin letters, three pairs of case changes: 1/10 + 1/16 + 3/80 is a fifth, and
-        // comes to the float before 0.2; of 96 and 1 unprintable, one over 60 letters, four pairs: the float behind it
-        for (n, unprintable, letters, changes) in [(160, 2, 32, 3), (96, 1, 60, 4)] {
+        // of 320 characters 4 unprintable, one doubled accent over 64 Latin letters, three pairs of case changes: 1/10 + 1/32 + 3/160 is 0.15, and
+        // comes to the float before it; of 480, 8 unprintable, one over 240 letters, two pairs: the float behind it
+        for (n, unprintable, letters, changes) in [(320, 4, 64, 3), (480, 8, 240, 2)] {
             let mut end = vec![0x20];
             end.extend((0..2 * changes + 1).map(|i| if i % 2 == 0 { 0x430 } else { 0x410 }));
             end.extend(vec![0x01; unprintable]);
@@ -100,7 +101,7 @@ impl Run {
 
     fn beside_the_default(&mut self, text: &[u32], lent: &Lent) {
         self.accepted(text, None, lent);
-        for threshold in [0.2f32.next_down(), 0.2, 0.2f32.next_up()] {
+        for threshold in [DEFAULT_THRESHOLD.next_down(), DEFAULT_THRESHOLD, DEFAULT_THRESHOLD.next_up(), 0.2] {
             self.accepted(text, Some(threshold), lent);
         }
     }

@@ -21,7 +21,10 @@ pub struct HostScore {
     pub sum: f32,
     pub fed: u32,
     pub stopped: u32,
+    pub counts: [[u32; 3]; 8],
 }
+
+pub const SCORE_WORDS: usize = 13 + 3 * 8;
 
 // Two answers are the same where every bit is.
 impl PartialEq for HostScore {
@@ -31,21 +34,25 @@ impl PartialEq for HostScore {
 }
 
 impl HostScore {
-    pub fn words(&self) -> [u32; 13] {
-        let r = self.ratios.map(f32::to_bits);
-        [self.number, self.place, r[0], r[1], r[2], r[3], r[4], r[5], r[6], r[7], self.sum.to_bits(), self.fed, self.stopped]
+    pub fn words(&self) -> [u32; SCORE_WORDS] {
+        let mut words = vec![self.number, self.place];
+        words.extend(self.ratios.map(f32::to_bits));
+        words.extend([self.sum.to_bits(), self.fed, self.stopped]);
+        words.extend(self.counts.as_flattened());
+        words.try_into().expect("as many words")
     }
 
     pub fn shown(&self) -> String {
         let r: Vec<String> = self.ratios.iter().map(|x| format!("{:08X}", x.to_bits())).collect();
         format!(
-            "number {} place {} ratios {} sum {:08X} fed {} stopped {}",
+            "number {} place {} ratios {} sum {:08X} fed {} stopped {} counts {:?}",
             self.number,
             self.place,
             r.join(" "),
             self.sum.to_bits(),
             self.fed,
-            self.stopped
+            self.stopped,
+            self.counts
         )
     }
 }

@@ -1,14 +1,13 @@
 // Many lines in one call. What is expected of a burst is written here a second time, from its description alone: the lines, the causes of
 // refusal of the whole call, and for each line what the oracle, or causes.rs, says of it; and each accepted row is what drasumira_score_utf8
 // answers for the line alone. Then what the Rust package does by itself: rows into scores, and the chooser's cut.
-use crate::library::{self, BYTE, Guarded, HostRead, HostScore, Lent, WORD};
+use crate::library::{self, BYTE, Guarded, HostRead, HostScore, Lent, SCORE_WORDS, WORD};
 use crate::tables::PAIR_BYTES;
 use crate::texts::{self, Alphabet};
-use crate::{ROOMS, Run, causes, chars, expected_score, hex, oracle_score, tables};
+use crate::{DEFAULT_THRESHOLD, ROOMS, Run, causes, chars, expected_score, hex, oracle_score, tables};
 
 const LONGEST_BURST: usize = 16_777_216;
-const NUMBERS: usize = 13;
-const DEFAULT_THRESHOLD: f32 = 0.2;
+const NUMBERS: usize = SCORE_WORDS;
 
 // Lines end at 0A; a last line without one counts; no bytes are no lines.
 fn lines(bytes: &[u8]) -> Vec<&[u8]> {
@@ -189,6 +188,10 @@ fn words(told: Result<drasumira::Score, drasumira::Refusal>) -> [u32; NUMBERS] {
             sum: s.sum,
             fed: s.fed,
             stopped: s.stopped as u32,
+            counts: drasumira::Detector::ALL.map(|d| {
+                let share = s.share(d);
+                [share.numerator, share.denominator, share.cut_off as u32]
+            }),
             ..HostScore::default()
         },
     };

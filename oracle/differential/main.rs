@@ -53,6 +53,7 @@ struct Run {
     refused: u64,
     stopped: u64,
     met: [u64; 8], // the accepted texts of which a ratio is not 0, by ratio
+    cut: [u64; 8], // those of which it was cut off
     coherence: coherence::Tally,
     random: Random,
     part: &'static str,
@@ -69,11 +70,22 @@ fn chars(text: &[u32]) -> Vec<char> {
     text.iter().map(|p| char::from_u32(*p).expect("a scalar value")).collect()
 }
 
+// 02 [5]: "A call without a threshold now uses f32 0.15". The crate's own default is another, so it is asked at this one.
+pub const DEFAULT_THRESHOLD: f32 = 0.15;
+
+// 02 [7]: the mark "holds exactly if both are above 0 and the ratio is 0".
+fn told_counts(counts: &[[u64; 2]], ratios: &[f32]) -> [[u32; 3]; 8] {
+    let one = |([over, under], ratio): (&[u64; 2], &f32)| [*over as u32, *under as u32, (*over > 0 && *under > 0 && *ratio == 0.0) as u32];
+    let told: Vec<[u32; 3]> = counts.iter().zip(ratios).map(one).collect();
+    told.try_into().expect("eight detectors")
+}
+
 // The oracle's answer in the library's form.
 fn oracle_score(text: &[u32], threshold: Option<f32>) -> HostScore {
-    let s = oracle::open::score(&chars(text), threshold, false);
+    let s = oracle::open::score(&chars(text), Some(threshold.unwrap_or(DEFAULT_THRESHOLD)), false);
+    let counts = told_counts(&s.counts, &s.ratios);
     let ratios: [f32; 8] = s.ratios.try_into().expect("eight ratios");
-    HostScore { number: 0, place: 0, ratios, sum: s.sum, fed: s.fed as u32, stopped: s.stopped as u32 }
+    HostScore { number: 0, place: 0, ratios, sum: s.sum, fed: s.fed as u32, stopped: s.stopped as u32, counts }
 }
 
 // The sum after the first k characters.
@@ -176,6 +188,7 @@ impl Run {
         let (told, expected) = (library::score(given.list(), threshold, lent), oracle_score(text, threshold));
         self.stopped += expected.stopped as u64;
         self.met.iter_mut().zip(expected.ratios).for_each(|(met, ratio)| *met += (ratio != 0.0) as u64);
+        self.cut.iter_mut().zip(expected.counts).for_each(|(cut, [_, _, mark])| *cut += mark as u64);
         if told != expected {
             self.fail(|| {
                 let small = smallest(text, |t| library::score(t, threshold, lent) != oracle_score(t, threshold));
@@ -555,9 +568,13 @@ impl Run {
                 run.fail(|| "a lent table was changed".into());
             }
         });
-        eprintln!("texts with a ratio that is not 0, by ratio: {:?}", self.met);
+        eprintln!("texts with a ratio that is not 0, by ratio: {:?}; that was cut off: {:?}", self.met, self.cut);
         if self.survey == 0 && self.met.contains(&0) {
             self.fail(|| "a ratio was 0 throughout".into());
+        }
+        // unprintables, doubled accents and archaic case have no cut-off
+        if self.survey == 0 && (0..8).any(|at| (self.cut[at] == 0) != [2, 4, 7].contains(&at)) {
+            self.fail(|| "a cut-off was never met, or one that is none".into());
         }
     }
 
@@ -604,6 +621,7 @@ fn main() {
         refused: 0,
         stopped: 0,
         met: [0; 8],
+        cut: [0; 8],
         coherence,
         random: Random::new(seed),
         part: "",

@@ -2,7 +2,7 @@
 // Code points, flags, thresholds and f32s are hex (an f32 by its 8 digits of bits), all other numbers decimal. TEXT is code points joined
 // by ',', or u: and UTF-8 in hex, or - for the empty text; a threshold THR of - is the crate's default.
 //   class CP                 FLAGS RANGE BASE LOWER             bit 24 added; base, lower 0: itself
-//   mess THR TEXT            SUM R1 .. R8 FED STOPPED
+//   mess THR TEXT            SUM R1 .. R8 FED STOPPED A1:B1 .. A8:B8      each detector's counters, A over B
 //   alone TEXT               the same, fed without the newline and never stopped
 //   coh THR INCLUDED TEXT    N NUMBER:SCORE ..                  INCLUDED: - or numbers joined by ','; 0 is pure Latin
 //   layers TEXT              the lowered letters of each layer, in making order
@@ -52,7 +52,8 @@ fn string(word: &str) -> String {
 
 fn shown(s: &Score) -> String {
     let ratios: Vec<String> = s.ratios.iter().map(|r| bits(*r)).collect();
-    format!("{} {} {} {}", bits(s.sum), ratios.join(" "), s.fed, s.stopped as u8)
+    let counts: Vec<String> = s.counts.iter().map(|[over, under]| format!("{over}:{under}")).collect();
+    format!("{} {} {} {} {}", bits(s.sum), ratios.join(" "), s.fed, s.stopped as u8, counts.join(" "))
 }
 
 fn class(word: &str) -> String {

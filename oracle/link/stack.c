@@ -12,7 +12,7 @@ typedef unsigned long u64;
 int printf(const char *, ...);
 
 typedef struct { u32 number, place, count; } HostRead;
-typedef struct { u32 number, place; float ratios[8], sum; u32 fed, stopped; } HostScore;
+typedef struct { u32 number, place; float ratios[8], sum; u32 fed, stopped, counts[8][3]; } HostScore;
 typedef struct { u32 taken, refused, number, place; } HostVerdict;
 typedef struct { u32 taken, length, number, place; } HostChosen;
 typedef struct { u32 number, place, count; } HostRanking;
@@ -21,7 +21,7 @@ typedef struct { u32 language; float score; } CoherenceMatch;
 
 _Static_assert(sizeof(HostRead) == 12 && sizeof(HostVerdict) == 16 && sizeof(HostChosen) == 16 && sizeof(HostRing) == 16, "by value");
 _Static_assert(sizeof(HostRanking) == 12 && sizeof(CoherenceMatch) == 8, "the ranking's");
-_Static_assert(sizeof(HostScore) == 52, "through the first pointer");
+_Static_assert(sizeof(HostScore) == 148, "through the first pointer");
 
 #define TABLES const u8 *classes, usize classes_n, const u8 *pairs, usize pairs_n
 HostRead drasumira_check_classes(const u8 *classes, usize classes_n);

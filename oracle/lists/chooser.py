@@ -11,7 +11,7 @@ import random
 import struct
 import sys
 
-from md import DEFAULT, LONGEST_TEXT, PAIR_BYTES, TABLES, Oracle, refusal, texts, words
+from md import LONGEST_TEXT, PAIR_BYTES, STATED, TABLES, Oracle, refusal, texts, words
 
 SEED = 8
 UNREACHED = 0x7F7FFFFF  # the largest f32
@@ -33,7 +33,7 @@ def cut(text):
 
 def verdict(oracle, first, second, table, pair_bytes):
     for which, text in ((1, first), (2, second)):
-        why = refusal(text, DEFAULT, table, pair_bytes)
+        why = refusal(text, STATED, table, pair_bytes)
         if why:
             return [0, which] + why + [0]
     a, b = (as_float(oracle.mess(UNREACHED, t)[SUM]) for t in (first, second))
@@ -64,7 +64,7 @@ def main():
         put([NEWLINE] * n, [NEWLINE])
     # both reach 0.2 at the first checkpoint; what follows parts them
     noisy = [ord(c) for c in "?!#%&@" * 6][:32]
-    if as_float(oracle.sum_alone(noisy)) < as_float(DEFAULT):
+    if as_float(oracle.sum_alone(noisy)) < as_float(STATED):
         sys.exit("chooser.py: the noisy text does not reach 0.2 at its first checkpoint")
     calm = [ord(c) for c in "the points are set and locked "] * 3
     for tail in (calm, noisy + calm, calm + noisy):

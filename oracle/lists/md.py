@@ -4,8 +4,8 @@
 # Texts of every script, of random scalar values and of noise; lengths around the places where the period changes and a checkpoint stands;
 # thresholds equal to the sum at a checkpoint, one float either side, and fixed ones; every cause of refusal and every pair of causes.
 # Before each case its size in bytes. The first is the class table, the second the pair table with four bytes of 0 behind it; then, in
-# little-endian u32 words: kind, threshold, bytes of the pair table, bytes of the class table, the 13 numbers of the answer (number, place,
-# eight ratios, sum, fed, stopped; floats as bits), and then, by the kind,
+# little-endian u32 words: kind, threshold, bytes of the pair table, bytes of the class table, the 37 numbers of the answer (number, place,
+# eight ratios, sum, fed, stopped, and of each detector numerator, denominator and mark; floats as bits), and then, by the kind,
 #   1: the text; the class table is the first bytes of tables/classes.bin
 #   2: the class table, in whole words, and the text
 #   3: the length of a text and the one character that it repeats
@@ -22,7 +22,7 @@ LONGEST_TEXT = 65536
 PAIR_BYTES = 32768
 RECORD = 24
 MOST_RECORDS = 8192
-DEFAULT = 0x3E4CCCCD  # f32 0.2
+STATED = 0x3E4CCCCD  # f32 0.2, stated in each call
 NAN, INFINITY, MINUS = 0x7FC00000, 0x7F800000, 0x80000000
 TEXT, OWN, REPEATED = 1, 2, 3
 
@@ -38,10 +38,20 @@ class Oracle:
 
     def mess(self, threshold, text):
         a = self.ask("mess %08X %s" % (threshold, points(text)))
-        return [0, 0] + [int(x, 16) for x in a[1:9]] + [int(a[0], 16), int(a[9]), int(a[10])]
+        ratios = [int(x, 16) for x in a[1:9]]
+        return [0, 0] + ratios + [int(a[0], 16), int(a[9]), int(a[10])] + shown(a[11:19], ratios)
 
     def sum_alone(self, text):
         return int(self.ask("alone " + points(text))[0], 16)
+
+
+def shown(counters, ratios):
+    """02 [7]: numerator, denominator, and a mark that holds exactly if both are above 0 and the ratio is 0."""
+    numbers = []
+    for counter, ratio in zip(counters, ratios):
+        over, under = map(int, counter.split(":"))
+        numbers += [over, under, int(over > 0 and under > 0 and ratio == 0)]
+    return numbers
 
 
 def points(text):
@@ -172,7 +182,7 @@ def thresholds(oracle, text, draw):
     fed = text + [10]
     p = period(len(text))
     checkpoints = [i for i in range(len(fed)) if i % p == p - 1]
-    found = [DEFAULT, draw.choice([0, MINUS, 0x3DCCCCCD, 0x3F800000, 0xBF800000, 0x7F7FFFFF, 0x00000001, 0x41980000])]
+    found = [STATED, draw.choice([0, MINUS, 0x3DCCCCCD, 0x3F800000, 0xBF800000, 0x7F7FFFFF, 0x00000001, 0x41980000])]
     if checkpoints:
         sums = oracle.sum_alone(fed[: draw.choice(checkpoints) + 1])
         found += [sums, beside(sums, 1), beside(sums, -1)]
@@ -189,7 +199,7 @@ def main():
     table = open(os.path.join(TABLES, "classes.bin"), "rb").read()
     pairs = open(os.path.join(TABLES, "pairs.bin"), "rb").read()
     cases = [table, pairs + bytes(4)]
-    refused = [0] * 11
+    refused = [0] * 35
 
     def put(kind, threshold, pair_bytes, class_bytes, answer, rest):
         cases.append(words([kind, threshold, pair_bytes, class_bytes] + answer) + rest)
@@ -207,7 +217,7 @@ def main():
         7: dict(pair_bytes=[0, 1, PAIR_BYTES - 1, PAIR_BYTES + 1]),
         6: dict(text=[[97, 0xD800], [0x110000], [98] * 40 + [0xFFFFFFFF], [0x4E00, 97]]),
     }
-    base = dict(threshold=DEFAULT, own=good, pair_bytes=PAIR_BYTES, text=[97, 98, 99])
+    base = dict(threshold=STATED, own=good, pair_bytes=PAIR_BYTES, text=[97, 98, 99])
 
     def refuse(**changes):
         at = dict(base, **changes)
@@ -225,13 +235,13 @@ def main():
                             for value2 in values2:
                                 refuse(**{name: value, name2: value2})
     for length, threshold, pair_bytes, class_bytes in (
-        (LONGEST_TEXT + 1, DEFAULT, PAIR_BYTES, len(table)),
+        (LONGEST_TEXT + 1, STATED, PAIR_BYTES, len(table)),
         (LONGEST_TEXT + 1, NAN, PAIR_BYTES, len(table)),
-        (LONGEST_TEXT + 1, DEFAULT, 0, len(table)),
-        (LONGEST_TEXT + 1, DEFAULT, PAIR_BYTES, 23),
+        (LONGEST_TEXT + 1, STATED, 0, len(table)),
+        (LONGEST_TEXT + 1, STATED, PAIR_BYTES, 23),
     ):
         put(REPEATED, threshold, pair_bytes, class_bytes, [1, 0] + refused, words([length, 97]))
-    put(REPEATED, DEFAULT, PAIR_BYTES, len(table), [1, 0] + refused, words([LONGEST_TEXT + 1, 0xD800]))
+    put(REPEATED, STATED, PAIR_BYTES, len(table), [1, 0] + refused, words([LONGEST_TEXT + 1, 0xD800]))
     for length, threshold in ((LONGEST_TEXT, 0x7F7FFFFF), (LONGEST_TEXT, 0), (LONGEST_TEXT - 1, 0x7F7FFFFF)):
         put(REPEATED, threshold, PAIR_BYTES, len(table), oracle.mess(threshold, [0x4E04] * length), words([length, 0x4E04]))
 

@@ -8,17 +8,19 @@ bits, some every flag at once or none, most lean to one detector; the texts at t
 serves all.
 
 That every branch of every detector is taken is seen here: `Counted` below is a second writing of plugins.rs, which counts each branch by
-name as it is taken and whose ratios are held to the oracle's. The script fails where one of them differs, or where a name in BRANCHES was
+name as it is taken and whose ratios and counts are held to the oracle's. The script fails where one of them differs, or where a name in BRANCHES was
 taken by no text; --branches prints the counts and writes no list.
 
-A case, after its size in bytes as crates/replay reads it: little-endian u32, the sum and the eight ratios as f32 bits and the number of
-letters in the alphabet; for each letter u32 for its code point, flags, range and base (never 0), and 8 bytes, of which the one at a is 1
+A case, after its size in bytes as crates/replay reads it: little-endian u32, the sum and the eight ratios as f32 bits, of each detector its
+numerator, its denominator and 1 where the ratio was cut off, and the number of letters in the alphabet; for each letter u32 for its code point, flags, range and base (never 0), and 8 bytes, of which the one at a is 1
 where its range after range a is suspicious; then the text, a byte for each character, the place of its letter in the alphabet.
 """
 import struct
 import subprocess
 import sys
 import tempfile
+
+from md import shown
 
 TEXTS = 2600
 RANGES = 8
@@ -286,10 +288,13 @@ class Counted:
             hit(f"{name}: below the cut-off" + (", though not 0" if n else ""))
         else:
             hit(f"{name}: kept" + (", at the cut-off" if p and q * n == p * d else ", not 0" if n else ", 0"))
+            self.counts += [n, d, 0]
             return quotient(n, d)
+        self.counts += [n, d, int(n > 0 and d > 0)]
         return 0.0
 
     def ratios(self):
+        self.counts = []
         sy, ac, un, ra, du, we, st, ar = self.sy, self.ac, self.un, self.ra, self.du, self.we, self.st, self.ar
         return [
             self.kept("symbols' ratio", sy["p"] + sy["s"], sy["n"], 3, 10),
@@ -486,7 +491,7 @@ def at_cut_offs(pairs):
 
 
 def asked(oracle, pairs, texts):
-    """the oracle's answers: for each text its sum and eight ratios, as f32 bits"""
+    """the oracle's answers: for each text its sum and eight ratios, as f32 bits, and of each detector numerator, denominator and mark"""
     table = bytearray(32768)
     for a in range(RANGES):
         for b in range(RANGES):
@@ -499,7 +504,11 @@ def asked(oracle, pairs, texts):
         f.write(table)
         f.flush()
         said = subprocess.run([oracle, "serve"], input="\n".join([f"pairs {f.name}"] + lines) + "\n", capture_output=True, text=True, check=True)
-    answers = [[int(w, 16) for w in line.split()[:9]] for line in said.stdout.splitlines()]
+    answers = []
+    for line in said.stdout.splitlines():
+        words = line.split()
+        ratios = [int(w, 16) for w in words[1:9]]
+        answers.append([int(words[0], 16)] + ratios + shown(words[11:19], ratios))
     assert len(answers) == len(texts)
     return answers
 
@@ -512,11 +521,11 @@ def second_writing(pairs, alphabet, text, hit):
     total = ratios[0]
     for x in ratios[1:]:
         total = f32(total + x)
-    return [struct.unpack("<I", struct.pack("<f", x))[0] for x in [total] + ratios]
+    return [struct.unpack("<I", struct.pack("<f", x))[0] for x in [total] + ratios] + s.counts
 
 
 def case(pairs, alphabet, text, answer):
-    body = struct.pack("<10I", *answer, len(alphabet))
+    body = struct.pack("<34I", *answer, len(alphabet))
     for x in alphabet:
         body += struct.pack("<4I", x.point, x.flags, x.range, x.base) + bytes(pairs[a][x.range] for a in range(RANGES))
     body += bytes(text)

@@ -39,6 +39,8 @@ pub struct HostScore {
     pub sum: f32,
     pub fed: u32,
     pub stopped: u32,
+    // numerator, denominator and mark of each detector, in order
+    pub counts: [[u32; 3]; 8],
 }
 
 #[repr(C)]
@@ -60,10 +62,11 @@ pub struct HostChosen {
 }
 
 // The layouts that the library writes.
-const _: () = assert!(size_of::<HostRead>() == 12 && size_of::<HostScore>() == 52 && size_of::<HostVerdict>() == 16);
+const _: () = assert!(size_of::<HostRead>() == 12 && size_of::<HostScore>() == 148 && size_of::<HostVerdict>() == 16);
 const _: () = assert!(size_of::<HostChosen>() == 16 && offset_of!(HostChosen, length) == 4 && offset_of!(HostChosen, number) == 8);
 const _: () = assert!(offset_of!(HostScore, number) == 0 && offset_of!(HostScore, place) == 4 && offset_of!(HostScore, ratios) == 8);
 const _: () = assert!(offset_of!(HostScore, sum) == 40 && offset_of!(HostScore, fed) == 44 && offset_of!(HostScore, stopped) == 48);
+const _: () = assert!(offset_of!(HostScore, counts) == 52);
 const _: () = assert!(offset_of!(Ratios, symbols) == 0 && offset_of!(Ratios, accents) == 4 && offset_of!(Ratios, unprintable) == 8);
 const _: () = assert!(offset_of!(Ratios, ranges) == 12 && offset_of!(Ratios, doubled) == 16 && offset_of!(Ratios, words) == 20);
 const _: () = assert!(offset_of!(Ratios, stops) == 24 && offset_of!(Ratios, archaic) == 28 && size_of::<Ratios>() == 32);
@@ -74,7 +77,7 @@ pub const NUMBERS_PER_LINE: usize = size_of::<HostScore>() / size_of::<u32>();
 
 // The score that a row of the library's output holds.
 pub fn told_in(row: &[u32; NUMBERS_PER_LINE]) -> HostScore {
-    // SAFETY: both are the same 52 bytes with no padding, and every u32 is a u32 and an f32's bits.
+    // SAFETY: both are the same 148 bytes with no padding, and every u32 is a u32 and an f32's bits.
     unsafe { std::mem::transmute(*row) }
 }
 
@@ -181,13 +184,13 @@ mod tests {
         (told.sum.to_bits(), told.fed, told.stopped)
     }
 
-    // Spaces, so many of them unprintable and spread evenly. The first two sums that stop are exactly 0.2; the highest of the text that does not is
-    // 8 * 1,635 / 65,408, which is 0.19998: so the library's default is above the one and at most the other.
+    // Spaces, so many of them unprintable and spread evenly. The first two sums that stop are exactly 0.15; the highest of the text that does not is
+    // 8 * 1,226 / 65,408, which is 0.14995: so the library's default is above the one and at most the other.
     #[test]
     fn one_default() {
         let tables = Tables::builtin_only();
         let (c, p) = (&tables.classes, &tables.pairs);
-        for (n, unprintable, fed, stops) in [(160, 4, 160, 1), (65_408, 1_636, 640, 1), (65_408, 1_635, 65_409, 0)] {
+        for (n, unprintable, fed, stops) in [(160, 3, 160, 1), (65_408, 1_227, 640, 1), (65_408, 1_226, 65_409, 0)] {
             let before = |i: usize| i * unprintable / n;
             let text: Vec<u8> = (0..n).map(|i| if before(i) < before(i + 1) { 1 } else { b' ' }).collect();
             let points: Vec<u32> = text.iter().map(|b| u32::from(*b)).collect();

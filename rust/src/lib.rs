@@ -27,6 +27,7 @@
 #![deny(missing_docs, clippy::undocumented_unsafe_blocks, clippy::missing_errors_doc)]
 mod chooser;
 mod coherence;
+mod detector;
 mod host;
 mod page;
 mod refusal;
@@ -36,6 +37,7 @@ mod writing;
 
 pub use chooser::{RefusedText, Which, choose, verdict};
 pub use coherence::{CoherenceMatch, Languages, TOO_SMALL_SEQUENCE, coherence, language_name, merge};
+pub use detector::{Detector, Share};
 pub use page::Page;
 pub use refusal::Refusal;
 pub use ring::{MOST_RECORDS, RECORD, Record, Ring};
@@ -87,7 +89,18 @@ impl Tables {
 }
 
 /// The eight ratios in the order in which they are added, their sum, how many characters were fed (the newline that is fed after every
-/// text among them), and whether the scan stopped early because the sum had reached the threshold.
+/// text among them), and whether the scan stopped early because the sum had reached the threshold. Of each ratio it tells the counts:
+///
+/// ```
+/// use drasumira::{Detector, Tables, score};
+/// let told = score("a, b; c!", None, &Tables::builtin_only())?;
+/// assert_eq!(told.share(Detector::Symbols).to_string(), "2 of 9, cut off");
+/// let noise = score("ab\u{1}", None, &Tables::builtin_only())?;
+/// assert_eq!(noise.share(Detector::Unprintable).to_string(), "8 of 4");
+/// let said: Vec<String> = noise.shares().filter(|(_, share)| share.ratio > 0.0).map(|(detector, share)| format!("{detector}: {share}")).collect();
+/// assert_eq!(said, ["unprintable characters: 8 of 4"]);
+/// # Ok::<(), drasumira::Refusal>(())
+/// ```
 #[derive(Clone, Copy, Debug, PartialEq)]
 #[non_exhaustive]
 pub struct Score {
@@ -113,10 +126,51 @@ pub struct Score {
     pub fed: u32,
     /// Whether the scan stopped before its end.
     pub stopped: bool,
+    // numerator, denominator and mark of each, in order
+    counts: [[u32; 3]; 8],
 }
 
+impl Score {
+    /// What it tells of one detector.
+    pub fn share(&self, detector: Detector) -> Share {
+        let ratio = match detector {
+            Detector::Symbols => self.symbols,
+            Detector::Accents => self.accents,
+            Detector::Unprintable => self.unprintable,
+            Detector::Ranges => self.ranges,
+            Detector::Doubled => self.doubled,
+            Detector::Words => self.words,
+            Detector::Stops => self.stops,
+            Detector::Archaic => self.archaic,
+        };
+        let [numerator, denominator, mark] = self.counts[detector as usize];
+        Share { ratio, numerator, denominator, cut_off: mark != 0 }
+    }
+
+    /// What it tells of the eight, in order.
+    pub fn shares(&self) -> impl Iterator<Item = (Detector, Share)> + '_ {
+        Detector::ALL.into_iter().map(|detector| (detector, self.share(detector)))
+    }
+}
+
+/// The threshold of the new rooms, and of every call that states none.
+pub const NEW_ROOMS: f32 = 0.15;
+
+/// The threshold of the summer rule and of the export desk, which state it; charset-normalizer-rs has it as its default.
+///
+/// ```
+/// use drasumira::{NEW_ROOMS, SUMMER_RULE, Tables, score};
+/// let tables = Tables::builtin_only();
+/// // one control character: 8 of 47 at the end of the line. At 0.2 that is readable; where no threshold is stated it is held against 0.15
+/// let line = format!("{}\u{1}", " ".repeat(45));
+/// let (summer, rooms) = (score(&*line, Some(SUMMER_RULE), &tables)?, score(&*line, None, &tables)?);
+/// assert!(summer.sum < SUMMER_RULE && rooms.sum >= NEW_ROOMS);
+/// # Ok::<(), drasumira::Refusal>(())
+/// ```
+pub const SUMMER_RULE: f32 = 0.2;
+
 /// Used by [`score`] and [`score_lines`] where no threshold is given. It is the library's own default: a test holds the two together.
-pub const DEFAULT_THRESHOLD: f32 = 0.2;
+pub const DEFAULT_THRESHOLD: f32 = NEW_ROOMS;
 
 /// Bytes that [`score_lines`] takes in one call.
 pub const LONGEST_BURST: usize = 16_777_216;
@@ -172,6 +226,7 @@ fn scored(told: host::HostScore) -> Result<Score, Refusal> {
         sum: told.sum,
         fed: told.fed,
         stopped: told.stopped != 0,
+        counts: told.counts,
     };
     unless_refused(told.number, told.place, score)
 }
@@ -185,7 +240,7 @@ fn count_lines(bytes: &[u8]) -> usize {
 /// The score of each line, of a `&str` or of bytes: what [`score`] answers for the line alone, with one check of the tables for all. A line
 /// ends at U+000A, which is no part of it; a last line without one counts; no bytes are no lines. A refused line is told in its place.
 ///
-/// It makes 52 bytes a line for the library's output, and the list of answers beside it; of bytes that are newlines alone that is some hundred
+/// It makes 148 bytes a line for the library's output, and the list of answers beside it; of bytes that are newlines alone that is some three hundred
 /// times their size. [`score_lines_into`] makes nothing.
 ///
 /// ```

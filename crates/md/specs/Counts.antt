@@ -4,7 +4,7 @@
 use Prim.Native.Nat.{ℕ}
 use mathlib.Core.List.{List}
 use Rattle.ratio.specs.Shown.{EachTells, EachShares}
-use Rattle.md_eight.proofs.Loops.Detectors.{CountsAtMost}
+use Rattle.md_eight.specs.Bounds.{CountsAtMost}
 use Rattle.md.specs.declared.Score.{Score}
 use Rattle.md.specs.DemandThree.{fractionsAt}
 

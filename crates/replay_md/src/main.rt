@@ -13,6 +13,8 @@ use md::Scored;
 use md::mess_ratio;
 use ratio::DETECTORS;
 use ratio::rounding::bits;
+use ratio::telling::NUMBERS_SHOWN;
+use ratio::telling::shown_numbers;
 use replay::WORD;
 use replay::first_case;
 use replay::float_of;
@@ -44,7 +46,9 @@ const RATIOS_AT: usize = ANSWER_AT + 2;
 
 const SUM_AT: usize = RATIOS_AT + DETECTORS;
 
-const REST_AT: usize = SUM_AT + 3;
+const COUNTS_AT: usize = SUM_AT + 3;
+
+const REST_AT: usize = COUNTS_AT + NUMBERS_SHOWN;
 
 const CASE_BYTES: usize = 8192;
 
@@ -73,6 +77,7 @@ fn same_score(s: Score, buf: &[u8]) -> bool
         & (f32::to_bits(s.sum) == word(buf, SUM_AT))
         & (s.fed == word(buf, SUM_AT + 1))
         & (one(s.stopped) == word(buf, SUM_AT + 2))
+        & same_words(&shown_numbers(s.counts), buf, COUNTS_AT)
 }
 
 // Whether an answer is the one that a case has.

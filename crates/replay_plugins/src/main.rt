@@ -11,6 +11,9 @@ use ratio::DETECTORS;
 use ratio::Ratios;
 use ratio::rounding::bits;
 use ratio::rounding::sum;
+use ratio::telling::NUMBERS_SHOWN;
+use ratio::telling::eight_shown;
+use ratio::telling::shown_numbers;
 use replay::WORD;
 use replay::byte;
 use replay::first_case;
@@ -19,8 +22,10 @@ use replay::same_words;
 use replay::say;
 use replay::word;
 
-// The words before the letters: the sum, eight ratios, and the number of letters.
-const HEAD: usize = DETECTORS + 2;
+// The words before the letters: the sum, eight ratios, their counts, and the number of letters.
+const COUNTS_AT: usize = DETECTORS + 1;
+
+const HEAD: usize = COUNTS_AT + NUMBERS_SHOWN + 1;
 
 // The words of a letter: code point, flags, range and base, and two words of bytes for the pairs.
 const LETTER: usize = 6;
@@ -82,6 +87,14 @@ fn same_ratios(case: &[u8], r: Ratios) -> bool
     (sum_bits(r) == word(case, 0)) & same_words(&bits(r), case, 1)
 }
 
+// The counts as an answer shows them.
+fn same_counts(case: &[u8], s: Detectors) -> bool
+    requires { ⌜ Countable s ⌝ }
+{
+    let shown = eight_shown(s.counts(), s.ratios());
+    same_words(&shown_numbers(shown), case, COUNTS_AT)
+}
+
 fn same_case(case: &[u8]) -> bool
     requires { ⌜ length (now case) ≤ LARGEST ⌝ }
 {
@@ -90,7 +103,8 @@ fn same_case(case: &[u8]) -> bool
     if from > case.len() {
         return false;
     }
-    same_ratios(case, ratios_of(fed_all(case, &case[from..])))
+    let s = fed_all(case, &case[from..]);
+    same_ratios(case, ratios_of(s)) & same_counts(case, s)
 }
 
 fn main() {

@@ -2,7 +2,7 @@
 -- ("All but CJK stops have ratios of at most 2, 1, 8, 2, 4, 1 and 1, in order"), and so have the counts that are shown with them. And the last
 -- range has a row in the pair table.
 -- Assumes nothing.
-use Prim.Native.Nat.{ℕ, _+_, _*_, _≤_}
+use Prim.Native.Nat.{ℕ, _+_, _≤_}
 use mathlib.Core.Path.{_≡_}
 use mathlib.Core.Bool.{Bool, true}
 use native.Mathlib.Omega.{arith}
@@ -11,12 +11,12 @@ use lib.Ieee.{Float, binary32, ofInt, le}
 use Rattle.base.specs.Inner.Limits.{LARGEST}
 use Rattle.classes.specs.declared.Class.{Class}
 use Rattle.ratio.specs.declared.Ratios.{Ratios}
-use Rattle.ratio.specs.declared.EightShown.{EightShown}
 use Rattle.ratio.specs.Shown.{shown, eightShown}
 use Rattle.ratio.specs.Eight.{fractionsOf, ratios as ratiosOf}
 use Rattle.ratio.specs.Inner.Eight.{EachProper}
 use Rattle.ratio.proofs.Laws.Rounded.{ratio-at-most}
 use Rattle.md_eight.specs.declared.Detectors.{Detectors}
+use Rattle.md_eight.specs.Bounds.{CountsAtMost}
 use Rattle.md_eight.specs.Detectors.{start, lastRange, feed, counts, fractions, ratios}
 use Rattle.md_eight.specs.Inner.Detectors.{Room, Countable}
 use Rattle.md_counts.proofs.Laws.TooManySymbolOrPunctuation as symbols
@@ -66,16 +66,6 @@ pub record AtMost (r : Ratios) : Type 0 where
   pub doubled : le (r .doubled) (whole 4) ≡ true
   pub words : le (r .words) (whole 1) ≡ true
   pub archaic : le (r .archaic) (whole 1) ≡ true
-
--- the same of the counts that are shown: numerator at most k times denominator
-pub record CountsAtMost (e : EightShown) : Type 0 where
-  pub symbols : e .symbols .num ≤ 2 * e .symbols .den
-  pub accents : e .accents .num ≤ 1 * e .accents .den
-  pub unprintable : e .unprintable .num ≤ 8 * e .unprintable .den
-  pub ranges : e .ranges .num ≤ 2 * e .ranges .den
-  pub doubled : e .doubled .num ≤ 4 * e .doubled .den
-  pub words : e .words .num ≤ 1 * e .words .den
-  pub archaic : e .archaic .num ≤ 1 * e .archaic .den
 
 infixr 40 _and_
 -- one element more of those that something holds of
