@@ -34,6 +34,7 @@ use md::Score;
 use md::Scored;
 use ratio::EightCounts;
 use ratio::rounding;
+use ratio::telling;
 
 // Up to this many characters SHORT_PERIOD is used, then up to MIDDLE_LENGTH MIDDLE_PERIOD, else LONG_PERIOD.
 const SHORT_LENGTH: usize = 510;
@@ -111,6 +112,7 @@ fn second_answer(counts: EightCounts, fed: u32, stopped: bool) -> Scored
         sum: rounding::sum(ratios),
         fed,
         stopped,
+        counts: telling::eight_shown(counts, ratios),
     })
 }
 

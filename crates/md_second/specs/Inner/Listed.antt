@@ -12,6 +12,7 @@ use Rattle.base.specs.First.{first}
 use Rattle.base.specs.Limits.{PAIR-BYTES}
 use Rattle.ratio.specs.declared.EightCounts.{EightCounts}
 use Rattle.ratio.specs.Eight.{fractionsOf, ratios, sum}
+use Rattle.ratio.specs.Shown.{eightShown}
 use Rattle.md.specs.declared.Scored.{Scored}
 use Rattle.md.specs.declared.Scored.the-variants.{Score}
 use Rattle.md.specs.Text.{period, checkpoint}
@@ -37,7 +38,14 @@ pub record Listed (p f r b q : List ℕ) (n : ℕ) : Type 0 where
 -- the answer that counts make
 unfoldable pub answered : EightCounts → ℕ → Bool → Scored
 answered c n early =
-    Score (record { ratios = ratios (fractionsOf c); sum = sum (ratios (fractionsOf c)); fed = n; stopped = early })
+    Score
+    (record {
+      ratios = ratios (fractionsOf c);
+      sum = sum (ratios (fractionsOf c));
+      fed = n;
+      stopped = early;
+      counts = eightShown c (ratios (fractionsOf c));
+    })
 
 module _ (points flags ranges bases pairs : List ℕ) (size : ℕ) (threshold : Float) where
   -- the scan stops after the character at i, if it has come to it

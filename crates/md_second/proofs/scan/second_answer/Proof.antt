@@ -1,4 +1,4 @@
--- The ratios and their sum are made of the counts once. Assumes nothing.
+-- The ratios, their sum and what is shown are made of the counts once. Assumes nothing.
 use Rattle.md_second.specs.Inner.Listed.{answered}
 use borrow.Author.Needs.{needs}
 use Rattle.md_second.proofs.scan.second_answer.Statement.{statement}
@@ -10,4 +10,4 @@ returns c = cc
 
 pub second-answer-spec : {M : Type 1} → statement M
 second-answer-spec =
-    tie.close (tie.spec (λ c κs. search needs) (λ c κs. search needs) returns)
+    tie.close (tie.spec (λ c κs. search needs) (λ c κs. search needs) (λ c κs. search needs) returns)
