@@ -16,7 +16,7 @@ CALLS = {
     "md_lines": ["score_lines"],
     "md_chooser": ["choose", "verdict"],
     "md_second": ["second_score"],
-    "md_reason": ["reason"],
+    "md_reason": ["reason", "reason_utf8"],
     "cd": ["coherence_ratio", "coherence_ratio_default"],
     "cd_languages": ["check_languages", "check_included"],
     "cd_merge": ["merge"],

@@ -1,4 +1,7 @@
+pub mod Growths
 pub mod Greatest
 pub mod Indexes
+pub mod Listed
 pub mod Reason
+pub mod ReasonUtf8
 pub mod Steps

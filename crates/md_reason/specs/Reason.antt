@@ -1,7 +1,7 @@
 -- reason, for every input (02 [8]): "For an accepted text the tool names the first detector, in 01's order, with the greatest ratio, and writes the indexes of the
 -- fed characters at which that detector's numerator grew, rising, each once". The ratios and the number fed are those that scoring answers for the same text; where the
 -- numerator grows is told by the scan's own steps (md_growth, Text: grows). Detector 0 has no numerator, so that its list is empty. "Refusals: as scoring, then 3 if
--- the buffer holds fewer than the list." And the same for UTF-8 bytes: the causes of reading that lie in the bytes come first, and the indexes are in code points.
+-- the buffer holds fewer than the list."
 -- Assumes nothing.
 use Prim.Native.Nat.{ℕ}
 use mathlib.Core.List.{List, [], _∷_, _++_}
@@ -34,6 +34,10 @@ module _ (text : List ℕ) (threshold : Float) (classes pairs : List ℕ) where
   unfoldable pub indexes : List ℕ
   indexes = passing (grows classes pairs text detector) fedOf
 
+  -- what an accepted call answers
+  abbrev pub told : Why
+  told = record { detector = detector; count = length indexes }
+
 -- 3: "if the buffer holds fewer than the list"
 unfoldable pub noRoom : List ℕ → ℕ → Cause
 noRoom list room = given (ltb room (length list)) NO-ROOM 0
@@ -44,14 +48,16 @@ reasonUnless Allowed why = Told why
 reasonUnless (Refused r) why = Untold r
 
 -- "as scoring, then 3"
+abbrev pub ofReason : List ℕ → Float → List ℕ → List ℕ → ℕ → List Cause
+ofReason text threshold classes pairs room = ofScoring text threshold classes pairs ++ (noRoom (indexes text threshold classes pairs) room ∷ [])
+
 unfoldable pub reasonCauses : List ℕ → Float → List ℕ → List ℕ → ℕ → Cause
 reasonCauses text threshold classes pairs room =
-    firstOf (ofScoring text threshold classes pairs ++ (noRoom (indexes text threshold classes pairs) room ∷ []))
+    firstOf (ofReason text threshold classes pairs room)
 
 unfoldable pub reasonAnswer : List ℕ → Float → List ℕ → List ℕ → ℕ → Reasoned
 reasonAnswer text threshold classes pairs room =
-    reasonUnless (reasonCauses text threshold classes pairs room)
-    (record { detector = detector text threshold classes pairs; count = length (indexes text threshold classes pairs) })
+    reasonUnless (reasonCauses text threshold classes pairs room) (told text threshold classes pairs)
 
 -- "The index buffer's other entries stay"
 unfoldable pub reasonInto : List ℕ → Float → List ℕ → List ℕ → List ℕ → List ℕ

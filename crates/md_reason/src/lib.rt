@@ -18,6 +18,7 @@ use md::mess_ratio;
 
 mod greatest;
 mod growing;
+pub mod utf8_bytes;
 
 // The detector, 1 to 8 in md.rs's order or 0 where the greatest ratio is 0, and how many indexes were listed.
 pub struct Why {

@@ -1,17 +1,17 @@
--- Of eight ratios that are plain one is the greatest (`greatest-some`), so that the detector has a number of at most 8 (`detector-few`). Where it is not 0, its ratio is at least each
--- (`detector-greatest`) and no earlier one is (`detector-first`).
+-- Of eight ratios that are plain one is the greatest (`greatest-some`), so that the detector has a number of at most 8 (`detector-few`). It is none exactly where each ratio is at most 0
+-- (`detector-none`, `none-detector`); else its ratio is at least each (`detector-greatest`) and above those before it (`detector-first`).
 -- Assumes nothing.
 use Prim.Native.Nat.{ℕ, zero, suc, _+_, _*_, _≤_, _<_}
 use mathlib.Core.Path.{_≡_, refl, sym, _∙_}
 use mathlib.Core.Bool.{true, false, true≢false}
 use mathlib.Core.List.{List, [], _∷_}
-use native.Mathlib.Nat.{not-suc-le-zero, le-of-suc-le-suc}
+use native.Mathlib.Nat.{not-suc-le-zero, le-of-suc-le-suc, le-trans}
 use native.Mathlib.Omega.{arith}
 use lib.Dec.{leb}
 use lib.Ieee.{Float, nan, le}
 use lib.ListN.{length, getD}
 use lib.Pow.{pow-pos}
-use borrow.Author.Tests.{le-leb}
+use borrow.Author.Tests.{le-leb, leb-true}
 use Rattle.base.specs.First.{first, each}
 use Rattle.base.specs.Inner.All.{All}
 use Rattle.base.proofs.Laws.First.{first-within, first-found, first-before, each-all, each-at}
@@ -66,6 +66,12 @@ sized p = p .size * ONE
 pub le-plain : (x y : Float) (p : Plain x) (q : Plain y) → le x y ≡ leb (sized p) (sized q)
 le-plain x y p q = le-is (p .size) ONE (q .size) ONE (pow-pos 149) (pow-pos 149) x y (p .value) (q .value)
 
+pub le-through : (x y z : Float) → Plain x → Plain y → Plain z → le x y ≡ true → le y z ≡ true → le x z ≡ true
+le-through x y z p q r a b =
+    let m = leb-true (sized p) (sized q) (sym (le-plain x y p q) ∙ a) in
+    let n = leb-true (sized q) (sized r) (sym (le-plain y z q r) ∙ b) in
+    le-plain x z p r ∙ le-leb (sized p) (sized r) (le-trans m n)
+
 pub first-few : (r : Ratios) → firstGreatest r ≤ DETECTORS
 unfolding firstGreatest
 first-few r = first-within (λ k. atLeastAll (ratioAt r k) r) DETECTORS
@@ -73,6 +79,13 @@ first-few r = first-within (λ k. atLeastAll (ratioAt r k) r) DETECTORS
 module _ (r : Ratios) (plain : EachPlain r) where
   pub ratio-plain-at : (k : ℕ) → Plain (ratioAt r k)
   ratio-plain-at k = plain-at (listRatios r) plain k
+
+  -- what is at least one that is at least each is at least each
+  pub all-below : (x y : Float) → Plain x → Plain y → atLeastAll x r ≡ true → le x y ≡ true → atLeastAll y r ≡ true
+  unfolding atLeastAll
+  all-below x y p q a t =
+      each-all (λ j. le (ratioAt r j) y) DETECTORS
+      (λ j h. le-through (ratioAt r j) x y (ratio-plain-at j) p q (each-at (λ i. le (ratioAt r i) x) DETECTORS a j h) t)
 
   pub greatest-some : firstGreatest r < DETECTORS
   unfolding firstGreatest atLeastAll
@@ -88,3 +101,54 @@ module _ (r : Ratios) (plain : EachPlain r) where
   pub detector-few : detectorOf r ≤ DETECTORS
   unfolding detectorOf
   detector-few = by-test (λ (d : ℕ). d ≤ DETECTORS) (atLeastAll ZERO r) NO-DETECTOR (firstGreatest r + 1) (λ e. omega arith) (λ e. omega (arith, greatest-some))
+
+  -- it is none exactly where each ratio is at most 0
+  pub detector-none : detectorOf r ≡ NO-DETECTOR → atLeastAll ZERO r ≡ true
+  unfolding detectorOf
+  detector-none e = by-bool (atLeastAll ZERO r) (λ t. t) (λ t. absurd (above (rw t at e)))
+    where
+      above : firstGreatest r + 1 ≡ 0 → ⊥
+      above z = omega arith
+
+  pub none-detector : atLeastAll ZERO r ≡ true → detectorOf r ≡ NO-DETECTOR
+  unfolding detectorOf
+  none-detector t = rw t
+
+  module _ (k : ℕ) (e : detectorOf r ≡ k + 1) where
+    some : atLeastAll ZERO r ≡ false
+    unfolding detectorOf
+    some = by-bool (atLeastAll ZERO r) (λ t. absurd (below (rw t at e))) (λ t. t)
+      where
+        below : 0 ≡ k + 1 → ⊥
+        below z = omega arith
+
+    is-first : firstGreatest r ≡ k
+    unfolding detectorOf
+    is-first = same (rw some at e)
+      where
+        same : firstGreatest r + 1 ≡ k + 1 → firstGreatest r ≡ k
+        same z = omega arith
+
+    -- else its ratio is above 0
+    pub detector-some : atLeastAll ZERO r ≡ false
+    detector-some = some
+
+    pub detector-at-least : atLeastAll (ratioAt r k) r ≡ true
+    unfolding firstGreatest
+    detector-at-least = rw is-first at (first-found (λ j. atLeastAll (ratioAt r j) r) DETECTORS greatest-some)
+
+    -- it is at least each
+    pub detector-greatest : (j : ℕ) → j < DETECTORS → le (ratioAt r j) (ratioAt r k) ≡ true
+    unfolding atLeastAll
+    detector-greatest j h = each-at (λ i. le (ratioAt r i) (ratioAt r k)) DETECTORS detector-at-least j h
+
+    -- and above those before it
+    pub detector-first : (j : ℕ) → j < k → le (ratioAt r k) (ratioAt r j) ≡ false
+    unfolding firstGreatest
+    detector-first j h = by-bool (le (ratioAt r k) (ratioAt r j)) (λ t. absurd (true≢false (sym (too t) ∙ not-yet))) (λ t. t)
+      where
+        not-yet : atLeastAll (ratioAt r j) r ≡ false
+        not-yet = first-before (λ i. atLeastAll (ratioAt r i) r) DETECTORS j (omega (arith, is-first))
+
+        too : le (ratioAt r k) (ratioAt r j) ≡ true → atLeastAll (ratioAt r j) r ≡ true
+        too t = all-below (ratioAt r k) (ratioAt r j) (ratio-plain-at k) (ratio-plain-at j) detector-at-least t

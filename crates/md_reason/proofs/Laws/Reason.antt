@@ -132,7 +132,7 @@ module _ (text : List ℕ) (threshold : Float) (classes pairs : List ℕ) where
         ∙ first-one (noRoom (indexes text threshold classes pairs) room)
         ∙ rw scored-indexes
 
-    scored-detector : detector text threshold classes pairs ≡ detectorOf (s .ratios)
+    pub scored-detector : detector text threshold classes pairs ≡ detectorOf (s .ratios)
     unfolding score.values
     scored-detector = ap (λ (a : Scored). detectorOf (score.values a .ratios)) e
 
