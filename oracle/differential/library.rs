@@ -100,6 +100,16 @@ unsafe extern "C" {
         pairs: *const u8,
         pairs_n: usize,
     ) -> *mut HostScore;
+    fn drasumira_second_score(
+        told: *mut HostScore,
+        text: *const u32,
+        n: usize,
+        threshold: f32,
+        classes: *const u8,
+        classes_n: usize,
+        pairs: *const u8,
+        pairs_n: usize,
+    ) -> *mut HostScore;
     fn drasumira_score_default(
         told: *mut HostScore,
         text: *const u32,
@@ -237,6 +247,17 @@ pub fn score(text: &[u32], threshold: Option<f32>, lent: &Lent) -> HostScore {
             None => drasumira_score_default(at, text.as_ptr(), text.len(), c.as_ptr(), c.len(), p.as_ptr(), p.len()),
         }
     };
+    assert_eq!(back, at, "the pointer that a large struct comes back through is returned");
+    told
+}
+
+// The same by the second engine, which has no call for the default threshold.
+pub fn second_score(text: &[u32], threshold: Option<f32>, lent: &Lent) -> HostScore {
+    let mut told = HostScore { number: WORD, ..HostScore::default() };
+    let (c, p) = (lent.classes.list(), lent.pairs.list());
+    let at: *mut HostScore = &mut told;
+    let t = threshold.unwrap_or(drasumira::DEFAULT_THRESHOLD);
+    let back = unsafe { drasumira_second_score(at, text.as_ptr(), text.len(), t, c.as_ptr(), c.len(), p.as_ptr(), p.len()) };
     assert_eq!(back, at, "the pointer that a large struct comes back through is returned");
     told
 }

@@ -13,6 +13,7 @@ mod pages;
 mod random;
 mod merge;
 mod ring;
+mod second;
 mod tables;
 mod texts;
 mod writing;
@@ -196,6 +197,7 @@ impl Run {
                 format!("threshold {threshold:?}, text {}\nlibrary {}\noracle  {}", hex(&small), told.shown(), expected.shown())
             });
         }
+        self.second(given.list(), threshold, lent, expected);
         if !given.whole() || (self.cases.is_multiple_of(TABLES_LOOKED_AT_EVERY) && !lent.whole()) {
             self.fail(|| format!("a lent slice was changed by text {}", hex(text)));
         }
@@ -220,6 +222,7 @@ impl Run {
                 )
             });
         }
+        self.second(given.list(), threshold, &lent, expected);
         if !given.whole() || !lent.whole() {
             self.fail(|| format!("a lent slice was changed by text {}", hex(&text[..text.len().min(100)])));
         }
@@ -557,6 +560,7 @@ impl Run {
         self.during("the default threshold", |run| run.aimed_default(run.times(70, 700), real));
         self.during("texts in real languages", |run| run.in_languages(run.times(600, 10_000), &records, languages, real));
         self.during("lengths", |run| run.lengths(alphabet, run.times(40, 500), real));
+        self.during("words and gaps", |run| run.words_and_gaps(run.times(500, 10_000), real));
         self.during("longest texts", |run| run.longest(alphabet, run.times(3, 20), classes, pairs));
         self.during("thresholds at a checkpoint", |run| run.at_a_checkpoint(alphabet, run.times(1_000, 20_000), real));
         self.during("lent tables", |run| run.lent_tables(run.times(60, 1_000), 60));

@@ -1,7 +1,7 @@
 /* How many bytes of stack each entry of the library takes, its callees among them: `oracle/link/run-x86 oracle/link/stack.c target/staticlib/libhost.a OUT`
    after `rt staticlib host`. It is also a C host: it declares the entries as docs/HOST.md has them, and asserts the layouts of the answers.
    The stack below the caller is painted before a call, and looked through for the first word that is no longer the paint. Tables: no class
-   record, no suspicious pair, one language, a page without an unused entry. Texts: small letters. Rankings: each entry a language of its own.
+   record, no suspicious pair, one language, a page without an unused entry. Texts: small letters; of the second engine a letter and a space in turn, which nests its readers deepest. Rankings: each entry a language of its own.
    Each call must be accepted: the status is 1 where one is refused. */
 typedef unsigned char u8;
 typedef unsigned short u16;
@@ -29,6 +29,7 @@ HostRead drasumira_read(const u8 *bytes, usize n, u32 *out, usize room);
 HostRead drasumira_read_page(const u16 *page, usize entries, const u8 *bytes, usize n, u32 *out, usize room);
 HostRead drasumira_write_page(const u16 *page, usize entries, const u32 *text, usize n, u8 *out, usize room);
 HostScore *drasumira_score(HostScore *told, const u32 *text, usize n, float threshold, TABLES);
+HostScore *drasumira_second_score(HostScore *told, const u32 *text, usize n, float threshold, TABLES);
 HostScore *drasumira_score_default(HostScore *told, const u32 *text, usize n, TABLES);
 HostScore *drasumira_score_utf8(HostScore *told, const u8 *text, usize n, float threshold, TABLES);
 HostScore *drasumira_score_utf8_default(HostScore *told, const u8 *text, usize n, TABLES);
@@ -45,9 +46,9 @@ HostRing drasumira_ring_open(const u8 *ring, usize n);
 HostRing drasumira_ring_put(u8 *ring, usize n, u32 head, u32 count, u64 line, u32 bits, u32 fed, u32 stopped, u32 refusal);
 HostRing drasumira_ring_flush(const u8 *ring, usize n, u32 head, u32 count, u32 most, u8 *out, usize room);
 
-enum { LONGEST = 65536, RANKED = 8192, RANKINGS = 64, RANKING_LONGEST = 63, MERGED = RANKINGS * RANKING_LONGEST, DEPTH = 1 << 20, SLACK = 256 };
+enum { LONGEST = 65536, RANKED = 8192, RANKINGS = 64, RANKING_LONGEST = 63, MERGED = RANKINGS * RANKING_LONGEST, DEPTH = 1 << 21, SECOND_LONGEST = 4096, SLACK = 256 };
 
-static u32 text[LONGEST], out[LONGEST], work[4 * RANKED], each[RANKINGS];
+static u32 spaced[SECOND_LONGEST], text[LONGEST], out[LONGEST], work[4 * RANKED], each[RANKINGS];
 static u8 bytes[LONGEST], back[LONGEST], pairs[32768], language[1032], ring[LONGEST], flushed[LONGEST];
 static u16 page[128];
 static CoherenceMatch matches[1], list[MERGED], merged[MERGED];
@@ -62,6 +63,7 @@ static void read_bytes(void) { number = drasumira_read(bytes, n, out, n).number;
 static void read_page(void) { number = drasumira_read_page(page, 128, bytes, n, out, n).number; }
 static void write_page(void) { number = drasumira_write_page(page, 128, text, n, back, n).number; }
 static void score(void) { number = drasumira_score(&told, text, n, 9, LENT)->number; }
+static void second_score(void) { number = drasumira_second_score(&told, spaced, n, 9, LENT)->number; }
 static void score_default(void) { number = drasumira_score_default(&told, text, n, LENT)->number; }
 static void score_utf8(void) { number = drasumira_score_utf8(&told, bytes, n, 9, LENT)->number; }
 static void score_utf8_default(void) { number = drasumira_score_utf8_default(&told, bytes, n, LENT)->number; }
@@ -96,7 +98,7 @@ int main(void) {
     static const struct { const char *name; void (*call)(void); usize most; } entries[] = {
         {"check_classes", check_classes, LONGEST}, {"read", read_bytes, LONGEST},
         {"read_page", read_page, LONGEST}, {"write_page", write_page, LONGEST}, {"score", score, LONGEST},
-        {"score_default", score_default, LONGEST}, {"score_utf8", score_utf8, LONGEST}, {"score_utf8_default", score_utf8_default, LONGEST},
+        {"score_default", score_default, LONGEST}, {"second_score", second_score, SECOND_LONGEST}, {"score_utf8", score_utf8, LONGEST}, {"score_utf8_default", score_utf8_default, LONGEST},
         {"score_lines", score_lines, LONGEST}, {"verdict", verdict, LONGEST}, {"choose", choose, LONGEST},
         {"coherence", coherence, RANKED}, {"coherence_default", coherence_default, RANKED},
         {"write_utf8", write_utf8, LONGEST}, {"merge", merge, MERGED},
@@ -104,6 +106,7 @@ int main(void) {
     };
     static const usize lengths[] = {80, 256, 257, MERGED, 4096, 4097, RANKED, LONGEST};
     for (usize i = 0; i < LONGEST; i++) text[i] = bytes[i] = 'a' + i * 7 % 26;
+    for (usize i = 0; i < SECOND_LONGEST; i++) spaced[i] = i % 2 ? ' ' : 'a';
     for (usize i = 0; i < 128; i++) page[i] = 0x400 + i;
     for (usize i = 0; i < MERGED; i++) list[i] = (CoherenceMatch){i, 0.5f};
     language[0] = 1, language[4] = 1, language[8] = 'a';

@@ -81,6 +81,12 @@ pub fn told_in(row: &[u32; NUMBERS_PER_LINE]) -> HostScore {
     unsafe { std::mem::transmute(*row) }
 }
 
+// The numbers of an answer, a float as its bits: two answers are the same where these are.
+pub fn numbers_of(told: HostScore) -> [u32; NUMBERS_PER_LINE] {
+    // SAFETY: as for told_in; every f32's bits are a u32.
+    unsafe { std::mem::transmute(told) }
+}
+
 // Characters as the code points that they are.
 pub fn points_of(text: &[char]) -> &[u32] {
     // SAFETY: a char has the size, the alignment and the bits of the u32 that is its code point (asserted above, and char's own documents); the slice is
@@ -96,6 +102,8 @@ unsafe extern "C" {
     fn drasumira_write_page(page: *const u16, entries: usize, text: *const u32, n: usize, out: *mut u8, room: usize) -> HostRead;
     fn drasumira_write_utf8(text: *const u32, n: usize, out: *mut u8, room: usize) -> HostRead;
     fn drasumira_score(told: *mut HostScore, text: *const u32, n: usize, threshold: f32,
+        classes: *const u8, classes_n: usize, pairs: *const u8, pairs_n: usize) -> *mut HostScore;
+    fn drasumira_second_score(told: *mut HostScore, text: *const u32, n: usize, threshold: f32,
         classes: *const u8, classes_n: usize, pairs: *const u8, pairs_n: usize) -> *mut HostScore;
     fn drasumira_score_utf8(told: *mut HostScore, text: *const u8, n: usize, threshold: f32,
         classes: *const u8, classes_n: usize, pairs: *const u8, pairs_n: usize) -> *mut HostScore;
@@ -137,6 +145,14 @@ pub fn score(text: &[u32], threshold: f32, classes: &[u8], pairs: &[u8]) -> Host
     let (c, p) = (classes, pairs);
     // SAFETY: as above; `told` is a local of the answer's type.
     unsafe { drasumira_score(&mut told, text.as_ptr(), text.len(), threshold, c.as_ptr(), c.len(), p.as_ptr(), p.len()) };
+    told
+}
+
+pub fn second_score(text: &[u32], threshold: f32, classes: &[u8], pairs: &[u8]) -> HostScore {
+    let mut told = HostScore::default();
+    let (c, p) = (classes, pairs);
+    // SAFETY: as above; `told` is a local of the answer's type.
+    unsafe { drasumira_second_score(&mut told, text.as_ptr(), text.len(), threshold, c.as_ptr(), c.len(), p.as_ptr(), p.len()) };
     told
 }
 

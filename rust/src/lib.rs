@@ -32,6 +32,7 @@ mod host;
 mod page;
 mod refusal;
 mod ring;
+mod second;
 mod text;
 mod writing;
 
@@ -41,6 +42,7 @@ pub use detector::{Detector, Share};
 pub use page::Page;
 pub use refusal::Refusal;
 pub use ring::{MOST_RECORDS, RECORD, Record, Ring};
+pub use second::{Apart, NotAgreed, SECOND_LONGEST, agreed, second_score};
 pub use text::{Part, Text};
 pub use writing::{to_string, write_utf8};
 

@@ -9,6 +9,7 @@ ghost use Rattle.page.specs.Answer.{readAnswer, readInto, writeAnswer, writeInt
 ghost use Rattle.md.specs.MessRatio.{messRatio, messRatioDefault};
 ghost use Rattle.md_utf8.specs.ScoreUtf8.{messRatioUtf8, messRatioUtf8Default};
 ghost use Rattle.md_lines.specs.Burst as bursts;
+ghost use Rattle.md_second.specs.Second.{secondScore};
 ghost use Rattle.md_chooser.specs.Choose.{chosen, verdictOf};
 ghost use Rattle.cd.specs.Causes.{causes, causesDefault};
 ghost use Rattle.cd.specs.Coherence.{DEFAULT-THRESHOLD, matchesOf, workAfter};
@@ -146,6 +147,19 @@ pub extern "C" fn drasumira_score_default(text: &[u32], classes: &[u8], pairs: &
     ensures { λ r. ⌜ r ≡ hostScore (messRatioDefault (now (text .entry)) (now (classes .entry)) (now (pairs .entry))) ⌝ }
 {
     flat_scored(md::mess_ratio_default(text, classes, pairs))
+}
+
+// The mess ratio by the second engine, of a text of at most 4,096 code points.
+#[no_mangle]
+pub extern "C" fn drasumira_second_score(
+    text: &[u32],
+    threshold: f32,
+    classes: &[u8],
+    pairs: &[u8],
+) -> HostScore
+    ensures { λ r. ⌜ r ≡ hostScore (secondScore (now (text .entry)) threshold (now (classes .entry)) (now (pairs .entry))) ⌝ }
+{
+    flat_scored(md_second::second_score(text, threshold, classes, pairs))
 }
 
 // The mess ratio of the text that UTF-8 bytes are: read and scored in one call.
