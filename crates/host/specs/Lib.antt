@@ -1,3 +1,4 @@
 pub mod Chosen
 pub mod Host
 pub mod Matches
+pub mod Running

@@ -20,6 +20,9 @@ ghost use Rattle.utf8_write.specs.Answer as writing;
 ghost use Rattle.host.specs.Chosen.{hostChosen};
 ghost use Rattle.host.specs.Host.{hostCounted, hostScore, hostVerdict, hostRing};
 ghost use Rattle.host.specs.Matches.{hostRanking, hostMerged};
+ghost use Rattle.host.specs.Running.{fedHost, chunkHost, closedHost};
+ghost use Rattle.md_running.specs.Opening.{openLine};
+ghost use Rattle.md_lent.specs.Lent.{hostOpened};
 use cd_list::HostRanking;
 use cd_ranking::CoherenceMatch;
 use flat::flat_chosen;
@@ -28,10 +31,16 @@ use flat::flat_judged;
 use flat::flat_merged;
 use flat::flat_ringed;
 use flat::flat_scored;
+use md_lent::HostOpened;
+use md_lent::HostRunning;
 use ratio::Ratios;
 use ring::Verdict;
+use running::chunk_flat;
+use running::closed_flat;
+use running::fed_flat;
 
 mod flat;
+mod running;
 
 // The answer of reading, and of a table's check: a refusal's number and place, or zeros and the count.
 #[repr(C)]
@@ -373,4 +382,61 @@ pub extern "C" fn drasumira_report(rows: &[u32], out: &mut [u8]) -> HostRead
     ensures { λ _. ⌜ now (out .exit) ≡ reportInto (now (rows .entry)) (now (out .entry)) ⌝ }
 {
     flat_counted(md_report::report(rows, out))
+}
+
+// What a feeding entry leaves in the lent state, and its answer.
+pub struct HostFed {
+    pub state: HostRunning,
+    pub answer: HostRead,
+}
+
+// A line of `length` characters of which none has arrived.
+#[no_mangle]
+pub extern "C" fn drasumira_open(
+    length: u32,
+    threshold: f32,
+    classes: &[u8],
+    pairs: &[u8],
+) -> HostOpened
+    ensures { λ r. ⌜ r ≡ hostOpened (openLine length threshold (now (classes .entry)) (now (pairs .entry))) ⌝ }
+{
+    md_lent::open_lent(length, threshold, classes, pairs)
+}
+
+// One character of a line; the count is the number received. What a refusal stores is what was there.
+#[no_mangle]
+pub extern "C" fn drasumira_feed(
+    state: &mut HostRunning,
+    point: u32,
+    classes: &[u8],
+    pairs: &[u8],
+) -> HostRead
+    ensures { λ r. ⌜ (now (state .exit) ≡ fedHost (now (state .entry)) point (now (classes .entry)) (now (pairs .entry)) .state) × (r ≡ fedHost (now (state .entry)) point (now (classes .entry)) (now (pairs .entry)) .answer) ⌝ }
+{
+    let fed = fed_flat(*state, point, classes, pairs);
+    *state = fed.state;
+    fed.answer
+}
+
+// A chunk of characters of a line: all of them, or none.
+#[no_mangle]
+pub extern "C" fn drasumira_feed_all(
+    state: &mut HostRunning,
+    text: &[u32],
+    classes: &[u8],
+    pairs: &[u8],
+) -> HostRead
+    ensures { λ r. ⌜ (now (state .exit) ≡ chunkHost (now (state .entry)) (now (text .entry)) (now (classes .entry)) (now (pairs .entry)) .state) × (r ≡ chunkHost (now (state .entry)) (now (text .entry)) (now (classes .entry)) (now (pairs .entry)) .answer) ⌝ }
+{
+    let fed = chunk_flat(*state, text, classes, pairs);
+    *state = fed.state;
+    fed.answer
+}
+
+// The answer of a line that has arrived in full. The state is lent to be read, so it is left as it is.
+#[no_mangle]
+pub extern "C" fn drasumira_close(state: &HostRunning) -> HostScore
+    ensures { λ r. ⌜ r ≡ closedHost (now (state .entry)) ⌝ }
+{
+    closed_flat(*state)
 }
