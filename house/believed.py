@@ -39,6 +39,8 @@ STATEMENTS = [
     ("md_growth", "Growth", "last-growth"),  # 02 [8]: the state keeps the index of each detector's last growth
     ("md_second", "Agreed", "second-agrees"),  # 02 [10]: the two engines answer alike
     ("ring", "History", "history"),  # 02 [11]: the accepted puts of a history of calls are the flushed records and those in the ring
+    ("md_thresholds", "Thresholds", "higher-compared"),  # 02 [12]: what a higher threshold does, in three sentences
+    ("md_thresholds", "Thresholds", "above-all"),  # no scan stops early at a threshold above HIGHEST
     ("md_report", "Report", "bins-add-up"),  # 02 [13]: the bins of each detector add up to the accepted lines
     ("md_report", "Report", "lines-add-up"),  # and that sum with the refused lines is the number of lines given
     ("md_report", "Report", "numbers-add-up"),  # the lines refused with each number add up to the refused

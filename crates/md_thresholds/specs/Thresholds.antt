@@ -5,7 +5,8 @@
 use Prim.Native.Nat.{ℕ, _≤_}
 use mathlib.Core.Path.{_≡_}
 use mathlib.Core.Bool.{true, false}
-use lib.Ieee.{Float, le}
+use lib.IntN.{pos}
+use lib.Ieee.{Float, binary32, ofInt, le}
 use Rattle.ratio.specs.Finite.{isFinite}
 use Rattle.md.specs.declared.Score.{Score}
 
@@ -19,6 +20,10 @@ pub record Higher (lower upper : Float) : Type 0 where
 -- characters at most are fed and 16 of them must be CJK
 abbrev pub HIGHEST : ℕ
 HIGHEST = 4115
+
+-- as an f32
+abbrev pub HIGHEST-F32 : Float
+HIGHEST-F32 = ofInt binary32 (pos HIGHEST)
 
 -- the answers at the lower and at the higher one
 pub record Compared (low high : Score) : Type 0 where

@@ -47,7 +47,7 @@ use Rattle.md.specs.declared.Scored.the-variants.{Score as Told}
 use Rattle.md.specs.Text.{total, checkpoint}
 use Rattle.md.specs.Scan.{stateAt, stops, reaches, sumOf, scored, stopOf, acceptedScore}
 use Rattle.md.specs.MessRatio.{causes, ofScoring, messRatio}
-use Rattle.md_thresholds.specs.Thresholds.{HIGHEST, Higher, Compared}
+use Rattle.md_thresholds.specs.Thresholds.{HIGHEST, HIGHEST-F32, Higher, Compared}
 use Rattle.md_thresholds.proofs.Laws.UpTo.{UpTo, whole, up-to-whole, whole-up-to, rounded-up-to, up-to-plus}
 use Rattle.md.proofs.Laws.Scan.{state-within}
 use Rattle.md.proofs.Laws.Accepted.{scored-faultless}
@@ -251,7 +251,7 @@ module _ (k : ℕ) (s : Detectors) (w : Within k s) (h : k ≤ LONGEST-TEXT + 1)
       k7)
       k8
 
-pub above-all : (text classes pairs : List ℕ) (u : Float) → isFinite u ≡ true → lt (whole HIGHEST) u ≡ true
+pub above-all : (text classes pairs : List ℕ) (u : Float) → isFinite u ≡ true → lt HIGHEST-F32 u ≡ true
     → (s : Score) → messRatio text u classes pairs ≡ Told s → s .stopped ≡ false
 unfolding stops reaches
 above-all text classes pairs u U h s e =
