@@ -16,7 +16,8 @@ fn set(name: &str) -> String {
     std::env::var(name).unwrap_or_else(|_| stop(&format!("{name} is not set: this is a build script of cargo")))
 }
 
-fn run(command: &mut Command) {
+// Runs it, and answers what it wrote.
+fn run(command: &mut Command) -> Vec<u8> {
     let said = match command.output() {
         Ok(said) => said,
         Err(e) => stop(&format!("{command:?}: {e}. The Rattle kit must be on the path: its `rt` proves and builds the library")),
@@ -25,6 +26,15 @@ fn run(command: &mut Command) {
         let words = |bytes: &[u8]| String::from_utf8_lossy(bytes).into_owned();
         eprint!("{}{}", words(&said.stdout), words(&said.stderr));
         stop(&format!("{command:?} failed ({}); what it said stands above", said.status));
+    }
+    said.stdout
+}
+
+// The kit and the logic by which the library is proved, for `drasumira --version`.
+fn proof(out: &Path) {
+    let said = run(Command::new("rt").arg("version"));
+    if let Err(e) = std::fs::write(out, said) {
+        stop(&format!("{}: {e}", out.display()));
     }
 }
 
@@ -69,6 +79,7 @@ fn main() {
         println!("cargo::rerun-if-env-changed={name}");
     }
     archive(root, &out.join("libdrasumira_host.a"));
+    proof(&out.join("proof.txt"));
     println!("cargo::rustc-link-search=native={}", out.display());
     println!("cargo::rustc-link-lib=static=drasumira_host");
 }

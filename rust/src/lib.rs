@@ -149,6 +149,20 @@ impl Score {
         Share { ratio, numerator, denominator, cut_off: mark != 0 }
     }
 
+    /// The detector with the greatest ratio, of equal ones the first; none where every ratio is 0.
+    ///
+    /// ```
+    /// use drasumira::{Detector, Tables, score};
+    /// let tables = Tables::builtin_only();
+    /// assert_eq!(score("ab\u{1}", None, &tables)?.greatest(), Some(Detector::Unprintable));
+    /// assert_eq!(score("plain", None, &tables)?.greatest(), None);
+    /// # Ok::<(), drasumira::Refusal>(())
+    /// ```
+    pub fn greatest(&self) -> Option<Detector> {
+        let above = self.shares().filter(|(_, share)| share.ratio > 0.0);
+        above.reduce(|best, next| if next.1.ratio > best.1.ratio { next } else { best }).map(|(detector, _)| detector)
+    }
+
     /// What it tells of the eight, in order.
     pub fn shares(&self) -> impl Iterator<Item = (Detector, Share)> + '_ {
         Detector::ALL.into_iter().map(|detector| (detector, self.share(detector)))

@@ -1,0 +1,369 @@
+// The command for people, run as a program: what it writes is compared whole.
+use drasumira::{
+    CoherenceMatch, DEFAULT_THRESHOLD, Languages, Page, Refusal, Score, TOO_SMALL_SEQUENCE, Tables, Which, coherence, language_name, merge,
+    score, score_lines, verdict,
+};
+use std::io::{Read, Write};
+use std::path::PathBuf;
+use std::process::{Command, Stdio};
+
+const HEAD: &str = "file\tline\tscore\tfed\tstopped\tdetector\tnumerator\tdenominator\n";
+
+#[derive(Debug, PartialEq)]
+struct Ran {
+    status: i32,
+    out: String,
+    err: String,
+}
+
+fn command(words: &[&str]) -> Command {
+    let mut command = Command::new(env!("CARGO_BIN_EXE_drasumira"));
+    command.args(words).env_remove("NO_COLOR").current_dir(concat!(env!("CARGO_MANIFEST_DIR"), "/.."));
+    command
+}
+
+// Runs it over these parts of standard input, each written by itself.
+fn run_over(words: &[&str], parts: &[&[u8]]) -> Ran {
+    let mut command = command(words);
+    let mut child = command.stdin(Stdio::piped()).stdout(Stdio::piped()).stderr(Stdio::piped()).spawn().unwrap();
+    let mut stdin = child.stdin.take().unwrap();
+    std::thread::scope(|scope| {
+        scope.spawn(move || {
+            for part in parts {
+                // it may have ended without reading all
+                let _ = stdin.write_all(part).and_then(|()| stdin.flush());
+            }
+        });
+        let said = child.wait_with_output().unwrap();
+        let text = |bytes| String::from_utf8(bytes).unwrap();
+        Ran { status: said.status.code().unwrap(), out: text(said.stdout), err: text(said.stderr) }
+    })
+}
+
+fn run(words: &[&str], input: &[u8]) -> Ran {
+    run_over(words, &[input])
+}
+
+fn ran(status: i32, out: &str, err: &str) -> Ran {
+    Ran { status, out: out.to_string(), err: err.to_string() }
+}
+
+fn file(name: &str, bytes: &[u8]) -> String {
+    let path = PathBuf::from(env!("CARGO_TARGET_TMPDIR")).join(name);
+    std::fs::write(&path, bytes).unwrap();
+    path.to_str().unwrap().to_string()
+}
+
+#[test]
+fn a_row_for_each_line() {
+    let told = run(&["score"], b"plain\n\x01\n\nab\xFF\n  ");
+    let rows = "-\t1\t0\t6\tno\t-\t-\t-
+-\t2\t4\t2\tno\tunprintable characters\t8\t2
+-\t3\t0\t1\tno\t-\t-\t-
+-\t4\t-\t-\t-\trefused: not UTF-8 at byte 2, counted from 0; try --page windows-1252, windows-1251 or iso-8859-2\t-\t-
+-\t5\t0\t3\tno\t-\t-\t-
+";
+    assert_eq!(told, ran(2, &format!("{HEAD}{rows}"), ""));
+    assert_eq!(run(&["score", "-"], b""), ran(0, HEAD, ""));
+}
+
+#[test]
+fn nothing_raw() {
+    // every control character, what turns the direction, what has no width, what is not assigned
+    let points = (0..0x20).chain(0x7F..0xA1).chain([0xAD, 0x61C, 0x180E]).chain(0x200B..0x2010).chain(0x2028..0x202F).chain(0x2060..0x2070);
+    let points = points.chain([0xFEFF, 0xFFF9, 0xFFFE, 0xE000, 0x378, 0xE0001, 0xE0041, 0x10FFFF]).filter(|point| *point != 0x0A);
+    let text: String = points.flat_map(char::from_u32).flat_map(|c| [c, 'a', '\n']).collect();
+    let name = file("raw \u{1B}[2J.log", text.as_bytes());
+    for words in [&["score", &*name][..], &["score", "--json", &name], &["compare", "--page", "utf-8", "--page", "utf-8", &name]] {
+        let told = run(words, b"");
+        assert_eq!(told.status, if words[0] == "compare" { 0 } else { 1 });
+        let raw = |c: &char| !matches!(c, '\t' | '\n') && c.escape_debug().next() != Some(*c) && !matches!(c, '\\' | '"' | '\'');
+        assert_eq!(told.out.chars().find(raw), None, "{words:?}");
+        assert!(told.out.contains("raw \\u{1B}[2J.log") || told.out.contains("raw \\u001B[2J.log"));
+    }
+}
+
+#[test]
+fn a_missing_file_and_the_next() {
+    let there = file("there.log", b"plain\n");
+    let told = run(&["score", "no/such.log", &there, "rust"], b"");
+    let row = format!("{there}\t1\t0\t6\tno\t-\t-\t-\n");
+    let err = "drasumira: no/such.log: No such file or directory (os error 2)\ndrasumira: rust: Is a directory (os error 21)\n";
+    assert_eq!(told, ran(2, &format!("{HEAD}{row}"), err));
+    assert_eq!(
+        run(&["score", "--json", "--", "--no-such"], b""),
+        ran(2, "", "drasumira: --no-such: No such file or directory (os error 2)\n")
+    );
+}
+
+#[test]
+fn bad_words() {
+    let said = |words: &[&str]| {
+        let told = run(words, b"");
+        assert_eq!((told.status, &*told.out), (2, ""));
+        told.err
+    };
+    let tells = "; drasumira --help tells more\n";
+    assert_eq!(said(&[]), format!("drasumira: a command is missing: score, languages or compare{tells}"));
+    assert_eq!(said(&["whi\u{1B}"]), format!("drasumira: there is no command whi\\u{{1B}}{tells}"));
+    assert_eq!(said(&["score", "--al"]), format!("drasumira: score has no option --al{tells}"));
+    assert_eq!(said(&["score", "--all"]), format!("drasumira: score has no option --all{tells}"));
+    assert_eq!(said(&["score", "--threshold"]), format!("drasumira: --threshold wants a word behind it{tells}"));
+    assert_eq!(said(&["score", "--threshold", "a"]), format!("drasumira: --threshold wants a number, and a is none{tells}"));
+    assert_eq!(said(&["score", "--threshold", "NaN"]), "drasumira: --threshold must be a finite number\n");
+    assert_eq!(said(&["score", "--threshold", "1e39"]), "drasumira: --threshold must be a finite number\n");
+    let page = "drasumira: there is no page koi8-r: utf-8, windows-1251, windows-1252 and iso-8859-2 are there";
+    assert_eq!(said(&["score", "--page", "koi8-r"]), format!("{page}{tells}"));
+    assert_eq!(said(&["compare", "--page", "utf-8"]), format!("drasumira: compare wants --page twice: the two readings to compare{tells}"));
+    assert_eq!(
+        said(&["score", "--page", "utf-8", "--page", "utf-8"]),
+        format!("drasumira: --page stands there twice: only compare takes two{tells}")
+    );
+}
+
+#[test]
+fn help_and_version() {
+    let help = run(&["--help"], b"");
+    assert!(help.out.starts_with("drasumira: which lines of a log are noise\n") && help.out.matches("console.log").count() == 2);
+    assert_eq!(run(&["score", "--help"], b""), help);
+    let version = run(&["--version"], b"");
+    let (first, second) = version.out.split_once('\n').unwrap();
+    assert_eq!((first, version.status), (concat!("drasumira ", env!("CARGO_PKG_VERSION")), 0));
+    // the kit and the logic, as the build found them
+    assert!(second.starts_with("the library behind it is proved: ") && second.contains(" logic ") && second.ends_with('\n'), "{second}");
+}
+
+#[test]
+fn lines_that_end_in_a_return() {
+    let told = run(&["score"], b"plain\r\n\r\nplain\r\n");
+    let tables = Tables::full();
+    let rows: String = ["plain\r", "\r", "plain\r"].iter().zip(1..).map(|(line, n)| row("-", n, &score(*line, None, &tables))).collect();
+    let note = "drasumira: lines end in U+000D before their newline: it is scored as a character of its line, as the library scores it\n";
+    assert_eq!(told, ran(told.status, &format!("{HEAD}{rows}"), note));
+}
+
+// The row of a line, written a second time.
+fn row(file: &str, number: usize, told: &Result<Score, Refusal>) -> String {
+    match told {
+        Ok(score) => {
+            let stopped = if score.stopped { "yes" } else { "no" };
+            let behind = match score.greatest() {
+                Some(detector) => format!("{detector}\t{}\t{}", score.share(detector).numerator, score.share(detector).denominator),
+                None => "-\t-\t-".to_string(),
+            };
+            format!("{file}\t{number}\t{}\t{}\t{stopped}\t{behind}\n", score.sum, score.fed)
+        }
+        Err(refusal) => {
+            assert_eq!(refusal.number, Refusal::ILL_FORMED);
+            let hint = "try --page windows-1252, windows-1251 or iso-8859-2";
+            format!("{file}\t{number}\t-\t-\t-\trefused: not UTF-8 at byte {}, counted from 0; {hint}\t-\t-\n", refusal.place)
+        }
+    }
+}
+
+#[test]
+fn a_character_at_the_edge_of_a_piece() {
+    // pieces of a file are 262,144 bytes: a character of 4 bytes lies over the edge of the first, at each of its bytes
+    for before in 1..4 {
+        let mut text = format!("{}\n", "a".repeat(99)).repeat(2_621);
+        text.push_str(&"b".repeat(262_144 - before - text.len()));
+        text.push_str("\u{1F600}\nplain\n");
+        let name = file(&format!("edge{before}.log"), text.as_bytes());
+        let told = run(&["score", &name], b"");
+        let rows: Vec<&str> = told.out.lines().collect();
+        assert_eq!((told.status, rows.len()), (0, 1 + 2_623), "{}", told.err);
+        let line = text.lines().nth(2_621).unwrap();
+        let score = score(line, None, &Tables::full()).unwrap();
+        assert!(rows[2_622].starts_with(&format!("{name}\t2622\t{}\t{}\t", score.sum, score.fed)));
+        assert!(rows[2_623].starts_with(&format!("{name}\t2623\t0\t6\t")));
+    }
+    // and in a pipe that is written in parts
+    let told = run_over(&["score"], &[b"plain \xF0\x9F", b"\x98\x80\npl", b"ain"]);
+    assert_eq!(told, ran(0, &format!("{HEAD}-\t1\t0\t8\tno\t-\t-\t-\n-\t2\t0\t6\tno\t-\t-\t-\n"), ""));
+}
+
+#[test]
+fn lines_at_each_limit() {
+    let refused = |n: usize, words: &str| format!("-\t{n}\t-\t-\t-\trefused: {words}; try it split into shorter lines\t-\t-");
+    let (points, bytes) = ("a".repeat(65_536), "\u{1F600}".repeat(65_536));
+    assert_eq!(bytes.len(), 262_144);
+    let far = "a".repeat(3_000_000);
+    let text = format!("{points}\n{points}a\n{bytes}\n{bytes}a\n{far}\nplain\n{far}");
+    let told = run(&["score"], text.as_bytes());
+    let rows: Vec<&str> = told.out.lines().skip(1).collect();
+    let long = "over 65,536 characters or 262,144 bytes";
+    assert!(rows[0].starts_with("-\t1\t0\t65537\tno\t") && rows[2].starts_with("-\t3\t"));
+    assert!(!rows[2].contains("refused"));
+    assert_eq!([rows[1], rows[3], rows[4], rows[6]], [2, 4, 5, 7].map(|n| refused(n, long)).each_ref().map(String::as_str));
+    assert_eq!((rows[5], rows.len(), told.status), ("-\t6\t0\t6\tno\t-\t-\t-", 7, 2));
+    // by a code page
+    let told = run(&["score", "--page", "windows-1252"], format!("{points}\n{points}a\nplain").as_bytes());
+    let rows: Vec<&str> = told.out.lines().skip(1).collect();
+    assert!(rows[0].starts_with("-\t1\t0\t65537\tno\t"));
+    assert_eq!(rows[1], refused(2, "over 65,536 bytes"));
+    assert_eq!((rows[2], rows.len()), ("-\t3\t0\t6\tno\t-\t-\t-", 3));
+}
+
+#[test]
+fn bytes_of_a_page() {
+    let (tables, page) = (Tables::full(), Page::windows_1251());
+    let text = "Съешь же ещё этих мягких французских булок, да выпей чаю.";
+    let bytes = page.write(text).unwrap();
+    let right = page.score(&bytes, None, &tables).unwrap();
+    assert!(right.sum < DEFAULT_THRESHOLD);
+    let told = run(&["score", "--page=windows-1251"], &bytes);
+    assert!(told.out.starts_with(&format!("{HEAD}-\t1\t{}\t{}\t", right.sum, right.fed)) && told.status == 0);
+    let wrong = Page::windows_1252().score(&bytes, None, &tables).unwrap();
+    let told = run(&["score", "--page", "windows-1252"], &bytes);
+    assert!(told.out.starts_with(&format!("{HEAD}-\t1\t{}\t{}\t", wrong.sum, wrong.fed)) && told.status == 1);
+}
+
+#[test]
+fn a_reader_that_goes_away() {
+    let name = file("long.log", "plain\n\u{1}\n".repeat(200_000).as_bytes());
+    for words in [&["score", &*name][..], &["score", "--json", &name]] {
+        let mut child = command(words).stdout(Stdio::piped()).stderr(Stdio::piped()).spawn().unwrap();
+        let mut some = [0; 100];
+        child.stdout.take().unwrap().read_exact(&mut some).unwrap();
+        let mut said = String::new();
+        child.stderr.take().unwrap().read_to_string(&mut said).unwrap();
+        assert_eq!((&*said, child.wait().unwrap().code()), ("", Some(1)));
+    }
+}
+
+// What a line of the shell writes on a terminal of its own, by script(1), where that is there.
+fn on_a_terminal(line: &str, set: &[(&str, &str)]) -> Option<String> {
+    let mut script = Command::new("script");
+    script.args(["-qec", line, "/dev/null"]).env_remove("NO_COLOR").env("TERM", "xterm").env("SHELL", "/bin/sh").stdin(Stdio::null());
+    let said = script.envs(set.iter().copied()).output().ok()?;
+    Some(String::from_utf8(said.stdout).unwrap())
+}
+
+#[test]
+fn progress_where_somebody_sits() {
+    // work that takes long, since its input does: told of on standard error alone
+    let slow = format!("(echo plain; sleep 1.3; echo plain) | {} score --json - >/dev/null", env!("CARGO_BIN_EXE_drasumira"));
+    let Some(said) = on_a_terminal(&slow, &[]) else { return };
+    assert!(said.starts_with("\r\x1b[K12 bytes, ") && said.ends_with(" lines a second\r\x1b[K"), "{said:?}");
+    assert_eq!(on_a_terminal(&format!("({slow}) 2>&1 | cat"), &[]).unwrap(), "");
+    assert_eq!(on_a_terminal(&format!("echo plain | {} score - >/dev/null", env!("CARGO_BIN_EXE_drasumira")), &[]).unwrap(), "");
+}
+
+// Lines of all kinds: words, letters of many scripts, control characters, bytes that are no UTF-8.
+fn random_lines(count: usize) -> Vec<u8> {
+    let mut state = 0x9E37_79B9_7F4A_7C15_u64;
+    let mut next = move |below: u64| {
+        state ^= state << 13;
+        state ^= state >> 7;
+        state ^= state << 17;
+        (state >> 11) % below
+    };
+    let mut text = vec![];
+    for _ in 0..count {
+        let kind = next(16);
+        for _ in 0..next(70) {
+            let wild = next(8) == 0;
+            let point = match kind {
+                0..6 => b"  etaoinshrdlu.,"[next(16) as usize].into(),
+                6..8 => 0x20 + next(0x5F),
+                8 => next(0x250),
+                9 => 0x400 + next(0x100),
+                10 => 0x4E00 + next(0x5000),
+                11 if wild => next(0x20),
+                12 if wild => 0xC0 + next(0x40),
+                13 if wild => next(0x11_0000),
+                14 => 0x300 + next(0x400),
+                _ => 0x61 + next(26),
+            };
+            match char::from_u32(point as u32).filter(|c| *c != '\n') {
+                Some(c) => text.extend_from_slice(c.encode_utf8(&mut [0; 4]).as_bytes()),
+                None => text.push(b' '),
+            }
+        }
+        if next(50) == 0 {
+            text.push(0x80 + next(0x80) as u8);
+        }
+        text.push(b'\n');
+    }
+    text
+}
+
+#[test]
+fn random_lines_as_the_library_says() {
+    let (text, tables) = (random_lines(100_000), Tables::full());
+    let name = file("random.log", &text);
+    let told = score_lines(&text, None, &tables).unwrap();
+    let rows: Vec<String> = (0..told.len()).map(|at| row(&name, at + 1, &told[at])).collect();
+    let said = run(&["score", &name], b"");
+    let mut kinds = [0; 3];
+    for ((said, row), told) in said.out.lines().skip(1).zip(&rows).zip(&told) {
+        assert_eq!(said, row.trim_end_matches('\n'));
+        kinds[told.map_or(2, |score| (score.sum >= DEFAULT_THRESHOLD) as usize)] += 1;
+    }
+    assert_eq!((said.out.lines().count(), said.status, kinds.iter().sum()), (100_001, 2, 100_000));
+    assert!(kinds.iter().all(|count| *count > 1_000), "readable, noise and refused: {kinds:?}");
+}
+
+#[test]
+fn languages_of_a_file() {
+    let (tables, languages) = (Tables::full(), Languages::full());
+    let greek = "Το σήμα στη βόρεια διασταύρωση είναι κλειστό και το τρένο περιμένει\n";
+    let ranked = |text: &str| coherence(text, None, TOO_SMALL_SEQUENCE, &tables, &languages, &[]).unwrap();
+    let list = |ranking: &[CoherenceMatch]| -> String {
+        ranking.iter().map(|entry| format!("  {:<12} {}\n", language_name(entry.language).unwrap(), entry.score)).collect()
+    };
+    let told = run(&["languages"], greek.as_bytes());
+    let head = format!("-: lines 1 to 1, all of it: {} characters\n", greek.chars().count());
+    assert_eq!(told, ran(0, &format!("{head}{}", list(&ranked(greek))), ""));
+    assert!(told.out.contains("  Greek "));
+    assert_eq!(run(&["languages"], b"").out, "-: nothing to rank: 0 characters\n  no language found\n");
+    // more than the library ranks at once: pieces of whole lines, merged
+    let lines = 8_192 / greek.chars().count();
+    let text = greek.repeat(2 * lines + 1);
+    let pieces = [ranked(&greek.repeat(lines)), ranked(&greek.repeat(lines)), ranked(greek)];
+    let merged = merge(&[&pieces[0], &pieces[1], &pieces[2]]).unwrap();
+    let told = run(&["languages"], text.as_bytes());
+    let head = format!(
+        "-: lines 1 to {}, all of it: {} characters, in 3 pieces whose rankings are merged\n",
+        2 * lines + 1,
+        commas(text.chars().count())
+    );
+    assert_eq!(told, ran(0, &format!("{head}{}", list(&merged)), ""));
+    // more than it merges: the rest is not ranked, and that is said
+    let text = greek.repeat(64 * lines + 1);
+    let told = run(&["languages"], text.as_bytes());
+    let head =
+        format!("-: lines 1 to {} ranked, and the rest not: {} characters, ", 64 * lines, commas(64 * lines * greek.chars().count()));
+    assert!(told.out.starts_with(&format!("{head}in 64 pieces whose rankings are merged\n")), "{}", told.out);
+    let told = run(&["languages", "--json"], b"ab\xFF\n");
+    let hint = "try --page windows-1252, windows-1251 or iso-8859-2";
+    let err = format!("drasumira: -:1: left out: not UTF-8 at byte 2, counted from 0; {hint}\n");
+    assert_eq!(
+        told,
+        ran(2, "{\"file\":\"-\",\"first\":1,\"last\":1,\"whole\":true,\"characters\":0,\"pieces\":0,\"languages\":[]}\n", &err)
+    );
+}
+
+fn commas(number: usize) -> String {
+    let digits = number.to_string();
+    let groups: Vec<&[u8]> = digits.as_bytes().rchunks(3).rev().collect();
+    groups.iter().map(|group| std::str::from_utf8(group).unwrap()).collect::<Vec<_>>().join(",")
+}
+
+#[test]
+fn two_readings_compared() {
+    let tables = Tables::full();
+    let (page, other) = (Page::windows_1251(), Page::windows_1252());
+    let text = "Съешь же ещё этих мягких французских булок, да выпей чаю.";
+    let bytes = page.write(text).unwrap();
+    assert_eq!(verdict(other.read(&bytes).unwrap().as_str(), text, &tables), Ok(Which::Second));
+    let input = [&bytes[..], b"\nplain\n"].concat();
+    let told = run(&["compare", "--page", "windows-1252", "--page", "windows-1251"], &input);
+    // of equal scores the first is taken
+    assert_eq!(told, ran(0, &format!("file\tline\tpage\ttext\n-\t1\twindows-1251\t{text}\n-\t2\twindows-1252\tplain\n"), ""));
+    let told = run(&["compare", "--page", "utf-8", "--page", "windows-1251", "--json"], &input);
+    let hint = "try --page windows-1252, windows-1251 or iso-8859-2";
+    let refused =
+        format!(r#"{{"file":"-","line":1,"page":"utf-8","refused":2,"place":0,"words":"not UTF-8 at byte 0, counted from 0; {hint}"}}"#);
+    assert_eq!(told, ran(2, &format!("{refused}\n{}\n", r#"{"file":"-","line":2,"page":"utf-8","text":"plain"}"#), ""));
+}
