@@ -15,6 +15,7 @@ CALLS = {
     "md_utf8": ["mess_ratio_utf8", "mess_ratio_utf8_default"],
     "md_lines": ["score_lines"],
     "md_chooser": ["choose", "verdict"],
+    "md_running": ["open_line", "feed_line", "feed_chunk", "close_line"],
     "md_second": ["second_score"],
     "md_reason": ["reason", "reason_utf8"],
     "cd": ["coherence_ratio", "coherence_ratio_default"],
@@ -36,6 +37,9 @@ STATEMENTS = [
     ("page", "RoundTrips", "write-after-read"),  # writing what was read gives the same bytes
     ("page", "RoundTrips", "read-after-write"),  # reading what was written gives the same text
     ("marked_cases", "Marked", "marked"),  # 01's cases (a) to (l)
+    ("md_running", "Line", "line-follows"),  # 02 [6]: the state after k characters is the scan's, up to the stop, and stays there after it
+    ("md_running", "Line", "line-whole"),  # a line that was fed in full answers what the whole call answers
+    ("md_running", "Chunk", "chunk-one-by-one"),  # an accepted chunk leaves what its characters leave one by one
     ("md_growth", "Growth", "last-growth"),  # 02 [8]: the state keeps the index of each detector's last growth
     ("md_second", "Agreed", "second-agrees"),  # 02 [10]: the two engines answer alike
     ("ring", "History", "history"),  # 02 [11]: the accepted puts of a history of calls are the flushed records and those in the ring

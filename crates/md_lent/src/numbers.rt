@@ -2,6 +2,7 @@
 ghost use mathlib.Core.Path.{_≡_};
 ghost use lib.Ieee.{ofBits, binary32};
 ghost use Rattle.md_lent.specs.Lent as lent;
+ghost use Rattle.md_lent.specs.Inner.Lent.{noLent};
 use crate::HostAccents;
 use crate::HostArchaic;
 use crate::HostDoubled;
@@ -210,7 +211,7 @@ pub fn lent_of(s: Running, bits: u32) -> HostRunning
 
 // No line: zeros.
 pub fn no_lent() -> HostRunning
-    ensures { λ r. ⌜ r ≡ lent.noLent ⌝ }
+    ensures { λ r. ⌜ r ≡ noLent ⌝ }
 {
     HostRunning {
         length: 0,

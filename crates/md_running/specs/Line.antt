@@ -1,6 +1,6 @@
 -- What 02 [6] says of a line that is fed character by character: "For a text with every character classed, fed in full from a fresh opening with the same
 -- tables each time, the result equals the whole call." And what a state in between is: that of the scan after as many characters, up to the stop, and
--- that of the stop from then on. The laws are `follows` and `closing-whole`, in proofs/Laws/Line.
+-- that of the stop from then on. The laws are `line-follows` and `line-whole`, in proofs/Laws/Line.
 -- Assumes nothing.
 use Prim.Native.Nat.{ℕ, zero, suc, _+_, _<_}
 use mathlib.Core.Path.{_≡_}

@@ -3,7 +3,7 @@
 -- Assumes nothing.
 use Prim.Native.Nat.{ℕ}
 use mathlib.Core.Bool.{false}
-use mathlib.Core.List.{List, _∷_}
+use mathlib.Core.List.{List, [], _∷_}
 use lib.Dec.{ltb}
 use lib.Ieee.{Float}
 use Rattle.base.specs.declared.Cause.{Cause}
@@ -11,8 +11,10 @@ use Rattle.base.specs.declared.Cause.the-variants.{Allowed, Refused}
 use Rattle.base.specs.Causes.{given, firstOf}
 use Rattle.base.specs.Limits.{LONGEST-TEXT}
 use Rattle.base.specs.Refusals.{ACCEPTED, TOO-LONG}
+use Rattle.classes.specs.Check.{badClasses}
+use Rattle.classes.specs.Pairs.{badPairs}
+use Rattle.ratio.specs.Finite.{notFinite}
 use Rattle.ratio.specs.Rounded.{ZERO}
-use Rattle.md.specs.Inner.Lent.{ofLent}
 use Rattle.md_growth.specs.Growth.{start, noGrowths}
 use Rattle.md_running.specs.declared.Running.{Running}
 use Rattle.md_running.specs.declared.Opened.{Opened}
@@ -34,7 +36,8 @@ longLine length = given (ltb LONGEST-TEXT length) TOO-LONG 0
 
 -- 1, 4, 5, 7
 unfoldable pub openCauses : ℕ → Float → List ℕ → List ℕ → Cause
-openCauses length threshold classes pairs = firstOf (longLine length ∷ ofLent threshold classes pairs)
+openCauses length threshold classes pairs =
+    firstOf (longLine length ∷ notFinite threshold ∷ badClasses classes ∷ badPairs pairs ∷ [])
 
 unfoldable pub openLine : ℕ → Float → List ℕ → List ℕ → Opened
 openLine length threshold classes pairs = openUnless (openCauses length threshold classes pairs) (fresh length threshold)

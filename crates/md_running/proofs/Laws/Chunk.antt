@@ -185,9 +185,14 @@ module _ (s : Running) (text classes pairs : List ℕ) where
         (omega (arith, l, a, b, h)) (room .tables)
         (neither-r (unsound (at k)) (missing (classOf classes (charAt text k))) n)
 
-    pub chunk-one-by-one : (k : ℕ) → k ≤ length text → oneByOne s text classes pairs k ≡ at k
+    same-at : (k : ℕ) → k ≤ length text → oneByOne s text classes pairs k ≡ at k
     unfolding oneByOne stepsAt classAt
-    chunk-one-by-one zero h = refl
-    chunk-one-by-one (suc k) h =
-        ap (λ (t : Running). feedLine t (charAt text k) classes pairs .state) (chunk-one-by-one k (omega arith))
+    same-at zero h = refl
+    same-at (suc k) h =
+        ap (λ (t : Running). feedLine t (charAt text k) classes pairs .state) (same-at k (omega arith))
         ∙ accepted-state (at k) (charAt text k) classes pairs (chunk-each k (omega arith))
+
+    -- "an accepted chunk leaves exactly what feeding its characters one by one leaves"
+    pub chunk-one-by-one : feedChunk s text classes pairs .state ≡ oneByOne s text classes pairs (length text)
+    unfolding feedChunk fedUnless stateUnless
+    chunk-one-by-one = rw e (sym (same-at (length text) (omega arith)))

@@ -1,5 +1,5 @@
--- A line that is fed character by character from a fresh opening (Line): the state after k characters follows the scan (`follows`), each of its calls is
--- accepted (`feeding-accepted`), and closing gives the whole call's answer (`closing-whole`).
+-- A line that is fed character by character from a fresh opening (Line): the state after k characters follows the scan (`line-follows`), each of its calls is
+-- accepted (`feeding-accepted`), and closing gives the whole call's answer (`line-whole`; `closing-whole` of a text that has no cause of refusal).
 -- Assumes nothing.
 use Prim.Native.Nat.{ℕ, zero, suc, _+_, _*_, _≤_, _<_}
 use mathlib.Core.Path.{_≡_, refl, sym, ap, _∙_}
@@ -11,11 +11,13 @@ use native.Mathlib.Omega.{arith}
 use lib.Ieee.{Float}
 use lib.Dec.{lit<}
 use lib.ListN.{length, getD, List·getD-eq-default}
-use borrow.Author.Tests.{lt-ltb, le-ltb}
+use borrow.Author.Tests.{lt-ltb, le-ltb, ltb-false}
 use Rattle.base.specs.declared.Cause.the-variants.{Allowed}
 use Rattle.base.specs.Inner.All.{All}
 use Rattle.base.specs.First.{first}
 use Rattle.base.specs.Limits.{LONGEST-TEXT, LAST-RANGE, NEWLINE}
+use Rattle.base.specs.Refusals.{TOO-LONG}
+use Rattle.base.proofs.Laws.Causes.{first-free, given-free}
 use Rattle.base.proofs.Laws.First.{first-is, first-none}
 use Rattle.base.proofs.Laws.Tests.{by-bool, split}
 use Rattle.classes.specs.declared.Class.{Class}
@@ -31,7 +33,9 @@ use Rattle.md_eight.proofs.Loops.Detectors.{Within}
 use Rattle.md.specs.declared.Limit.the-variants.{Threshold}
 use Rattle.md.specs.Text.{charAt, total, checkpoint}
 use Rattle.md.specs.Scan.{fed, classIn, classAt, unclassed, stateAt, stops, sumOf, reaches, scored, acceptedScore}
-use Rattle.md.proofs.Laws.Scan.{state-more, state-within, state-range}
+use Rattle.md.specs.Inner.Lent.{ofLent, badLent}
+use Rattle.md.proofs.Laws.Lent.{free-lent}
+use Rattle.md.proofs.Laws.Scan.{is-classed, state-more, state-within, state-range}
 use Rattle.md.specs.MessRatio.{messRatio}
 use Rattle.md.proofs.Laws.Accepted.{Faultless, faultless-scored}
 use Rattle.md_growth.specs.declared.Watched.{Watched}
@@ -39,7 +43,7 @@ use Rattle.md_growth.specs.Text.{watchedNext, watchedAt}
 use Rattle.md_growth.proofs.Laws.Growth.{watched-start, watched-more, watched-eight}
 use Rattle.md_running.specs.declared.Running.{Running}
 use Rattle.md_running.specs.State.{TWICE, eightOf, countsIn, badState}
-use Rattle.md_running.specs.Opening.{fresh}
+use Rattle.md_running.specs.Opening.{fresh, longLine, openCauses}
 use Rattle.md_running.specs.Feeding.{stopsAt, arrived, fedOn, step, feedCauses, feedLine}
 use Rattle.md_running.specs.Closing.{ended, closeLine}
 use Rattle.md_running.specs.Line.{lineAt, Going, Stopped, Phase, going, over, Follows}
@@ -109,8 +113,8 @@ module _ (text : List ℕ) (most : Float) (classes pairs : List ℕ) where
   abbrev halts : ℕ → Bool
   halts = stops classes pairs text (Threshold most)
 
-  -- what a line needs beside its characters' classes
-  pub record Openable : Type 0 where
+  -- what an opening that is accepted has
+  record Openable : Type 0 where
     pub short : length text ≤ LONGEST-TEXT
     pub finite : isFinite most ≡ true
     pub tables : Tables classes pairs
@@ -137,10 +141,10 @@ module _ (text : List ℕ) (most : Float) (classes pairs : List ℕ) where
         phase-sound k (i + 1) s g h (p .eight) (let b = p .before in omega arith) (let b = p .before in let e = p .fed in omega arith)
 
     -- a state that follows the scan passes 19
-    pub follows-sound : (k : ℕ) (s : Running) → Follows text most classes pairs k s → k ≤ length text → Sound s
+    follows-sound : (k : ℕ) (s : Running) → Follows text most classes pairs k s → k ≤ length text → Sound s
     follows-sound k s g h = by-phase k s g h (g .phase)
 
-    pub follows-start : Follows text most classes pairs 0 (fresh (length text) most)
+    follows-start : Follows text most classes pairs 0 (fresh (length text) most)
     unfolding fresh
     follows-start =
         record {
@@ -250,16 +254,16 @@ module _ (text : List ℕ) (most : Float) (classes pairs : List ℕ) where
           (found-class (charAt text k) (classOf classes (charAt text k)) m) (g .phase))
 
     -- the state after k characters that have classes
-    pub follows : (k : ℕ) → k ≤ length text → ((i : ℕ) → i < k → unclassed classes text i ≡ false)
+    follows : (k : ℕ) → k ≤ length text → ((i : ℕ) → i < k → unclassed classes text i ≡ false)
         → Follows text most classes pairs k (lineAt text most classes pairs k)
     follows zero h m = rw line-start follows-start
     follows (suc k) h m =
         rw (← add-one k, line-more k)
         (feed-follows k (lineAt text most classes pairs k) (follows k (omega arith) (λ i l. m i (omega arith))) (omega arith) (m k (omega arith)))
 
-    pub feeding-accepted : (k : ℕ) → k < length text → ((i : ℕ) → i < k + 1 → unclassed classes text i ≡ false)
+    fed-accepted : (k : ℕ) → k < length text → ((i : ℕ) → i < k + 1 → unclassed classes text i ≡ false)
         → feedCauses (lineAt text most classes pairs k) (charAt text k) classes pairs ≡ Allowed
-    feeding-accepted k h m =
+    fed-accepted k h m =
         accepted k (lineAt text most classes pairs k) (follows k (omega arith) (λ i l. m i (omega arith))) h (m k (omega arith))
 
     -- ---- the end
@@ -310,9 +314,41 @@ module _ (text : List ℕ) (most : Float) (classes pairs : List ℕ) where
       closed-whole (over i p) =
           sym (close-on s (sound-free s (follows-sound (length text) s g (omega arith)))) ∙ sym (close-stopped s received-all (p .stopped)) ∙ over-whole i p
 
-  -- "For a text with every character classed, fed in full from a fresh opening with the same tables each time, the result equals the whole call"
+  openable : openCauses (length text) most classes pairs ≡ Allowed → Openable
+  unfolding openCauses longLine badLent
+  openable e =
+      let a = first-free (longLine (length text)) (ofLent most classes pairs) e in
+      let l = free-lent classes pairs most (a .1) in
+      record { short = ltb-false LONGEST-TEXT (length text) (given-free _ TOO-LONG 0 (a .0)); finite = l .0; tables = l .1 }
+
+  -- closing gives the whole call's answer
   pub closing-whole : Faultless text most classes pairs → closeLine (lineAt text most classes pairs (length text)) ≡ messRatio text most classes pairs
   closing-whole f =
       let o : Openable = record { short = f .short; finite = f .finite; tables = f .tables } in
       let g = follows o (length text) (omega arith) (λ i l. f .classed i (omega arith)) in
       closed-whole o (lineAt text most classes pairs (length text)) g (g .phase) ∙ sym (faultless-scored text most classes pairs f)
+
+  -- ---- for readers: from an opening that is accepted on
+  module _ (opened : openCauses (length text) most classes pairs ≡ Allowed) where
+    pub line-follows : (k : ℕ) → k ≤ length text → ((i : ℕ) → i < k → unclassed classes text i ≡ false)
+        → Follows text most classes pairs k (lineAt text most classes pairs k)
+    line-follows k h m = follows (openable opened) k h m
+
+    pub feeding-accepted : (k : ℕ) → k < length text → ((i : ℕ) → i < k + 1 → unclassed classes text i ≡ false)
+        → feedCauses (lineAt text most classes pairs k) (charAt text k) classes pairs ≡ Allowed
+    feeding-accepted k h m = fed-accepted (openable opened) k h m
+
+    -- "For a text with every character classed, fed in full from a fresh opening with the same tables each time, the result equals the whole call"
+    pub line-whole : ((i : ℕ) → i < length text → unclassed classes text i ≡ false)
+        → closeLine (lineAt text most classes pairs (length text)) ≡ messRatio text most classes pairs
+    line-whole m =
+        let o = openable opened in
+        closing-whole
+        (record {
+          short = o .short;
+          finite = o .finite;
+          tables = o .tables;
+          classed = λ i l. split i (length text) (λ h. m i h)
+              (λ h. let z : length text ≡ i = omega arith in
+              rw (← z) (is-classed classes text (length text) (builtinClass NEWLINE) (newline-last o _ (follows o (length text) (omega arith) m))));
+        })
