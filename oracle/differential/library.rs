@@ -84,8 +84,39 @@ pub struct HostRing {
     pub count: u32,
 }
 
+// A running line: 48 numbers.
+pub const RUNNING: usize = 48;
+
+#[repr(C)]
+#[derive(Clone, Copy, Debug, PartialEq)]
+pub struct HostOpened {
+    pub number: u32,
+    pub place: u32,
+    pub state: [u32; RUNNING],
+}
+
 // A struct of more than 16 bytes comes back through the first pointer, which is also returned.
 unsafe extern "C" {
+    fn drasumira_open(
+        told: *mut HostOpened,
+        length: u32,
+        threshold: f32,
+        classes: *const u8,
+        classes_n: usize,
+        pairs: *const u8,
+        pairs_n: usize,
+    ) -> *mut HostOpened;
+    fn drasumira_feed(state: *mut u32, point: u32, classes: *const u8, classes_n: usize, pairs: *const u8, pairs_n: usize) -> HostRead;
+    fn drasumira_feed_all(
+        state: *mut u32,
+        text: *const u32,
+        n: usize,
+        classes: *const u8,
+        classes_n: usize,
+        pairs: *const u8,
+        pairs_n: usize,
+    ) -> HostRead;
+    fn drasumira_close(told: *mut HostScore, state: *const u32) -> *mut HostScore;
     fn drasumira_check_classes(classes: *const u8, n: usize) -> HostRead;
     fn drasumira_read(bytes: *const u8, n: usize, out: *mut u32, room: usize) -> HostRead;
     fn drasumira_read_page(page: *const u16, entries: usize, bytes: *const u8, n: usize, out: *mut u32, room: usize) -> HostRead;
@@ -306,4 +337,31 @@ pub fn ring_put(ring: &mut [u8], head: u32, count: u32, line: u64, words: [u32; 
 
 pub fn ring_flush(ring: &[u8], head: u32, count: u32, most: u32, out: &mut [u8]) -> HostRing {
     unsafe { drasumira_ring_flush(ring.as_ptr(), ring.len(), head, count, most, out.as_mut_ptr(), out.len()) }
+}
+
+pub fn open_line(length: u32, threshold: f32, lent: &Lent) -> HostOpened {
+    let mut told = HostOpened { number: WORD, place: WORD, state: [WORD; RUNNING] };
+    let (c, p) = (lent.classes.list(), lent.pairs.list());
+    let at: *mut HostOpened = &mut told;
+    let back = unsafe { drasumira_open(at, length, threshold, c.as_ptr(), c.len(), p.as_ptr(), p.len()) };
+    assert!(back == at, "the first pointer is returned");
+    told
+}
+
+pub fn feed(state: &mut Guarded<u32>, point: u32, lent: &Lent) -> HostRead {
+    let (c, p) = (lent.classes.list(), lent.pairs.list());
+    unsafe { drasumira_feed(state.list_mut().as_mut_ptr(), point, c.as_ptr(), c.len(), p.as_ptr(), p.len()) }
+}
+
+pub fn feed_all(state: &mut Guarded<u32>, text: &[u32], lent: &Lent) -> HostRead {
+    let (c, p) = (lent.classes.list(), lent.pairs.list());
+    unsafe { drasumira_feed_all(state.list_mut().as_mut_ptr(), text.as_ptr(), text.len(), c.as_ptr(), c.len(), p.as_ptr(), p.len()) }
+}
+
+pub fn close_line(state: &Guarded<u32>) -> HostScore {
+    let mut told = HostScore { number: WORD, ..HostScore::default() };
+    let at: *mut HostScore = &mut told;
+    let back = unsafe { drasumira_close(at, state.list().as_ptr()) };
+    assert!(back == at, "the first pointer is returned");
+    told
 }

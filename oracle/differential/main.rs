@@ -13,6 +13,7 @@ mod pages;
 mod random;
 mod merge;
 mod ring;
+mod running;
 mod second;
 mod tables;
 mod texts;
@@ -612,7 +613,7 @@ fn main() {
         }
         _ => {
             eprintln!(
-                "usage: differential quick|full|survey-once|survey-twice TABLES [SEED [scoring|reading|pages|writing|coherence|merges|rings]]"
+                "usage: differential quick|full|survey-once|survey-twice TABLES [SEED [scoring|reading|pages|writing|coherence|merges|rings|running]]"
             );
             std::process::exit(2)
         }
@@ -640,7 +641,7 @@ fn main() {
     walls::watch();
     eprintln!("seed {seed}, over {}", env!("LIBRARY"));
     for name in
-        ["scoring", "reading", "pages", "writing", "coherence", "merges", "rings"].into_iter().filter(|name| part.is_none_or(|part| part == *name))
+        ["scoring", "reading", "pages", "writing", "coherence", "merges", "rings", "running"].into_iter().filter(|name| part.is_none_or(|part| part == *name))
     {
         run.part = name;
         match name {
@@ -650,7 +651,8 @@ fn main() {
             "writing" => run.all_writing(&classes),
             "coherence" => run.coherence(&classes, &pairs, &languages),
             "merges" => run.all_merges(),
-            _ => run.all_rings(),
+            "rings" => run.all_rings(),
+            _ => run.all_running(&classes, &pairs),
         }
     }
     if survey > 0 {
