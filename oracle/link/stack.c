@@ -17,11 +17,14 @@ typedef struct { u32 taken, refused, number, place; } HostVerdict;
 typedef struct { u32 taken, length, number, place; } HostChosen;
 typedef struct { u32 number, place, count; } HostRanking;
 typedef struct { u32 number, place, head, count; } HostRing;
+typedef struct { u32 numbers[48]; } HostRunning;
+typedef struct { u32 number, place; HostRunning state; } HostOpened;
 typedef struct { u32 language; float score; } CoherenceMatch;
 
 _Static_assert(sizeof(HostRead) == 12 && sizeof(HostVerdict) == 16 && sizeof(HostChosen) == 16 && sizeof(HostRing) == 16, "by value");
 _Static_assert(sizeof(HostRanking) == 12 && sizeof(CoherenceMatch) == 8, "the ranking's");
-_Static_assert(sizeof(HostScore) == 148, "through the first pointer");
+_Static_assert(sizeof(HostScore) == 148 && sizeof(HostOpened) == 200, "through the first pointer");
+_Static_assert(sizeof(HostRunning) == 192, "lent");
 
 #define TABLES const u8 *classes, usize classes_n, const u8 *pairs, usize pairs_n
 HostRead drasumira_check_classes(const u8 *classes, usize classes_n);
@@ -42,6 +45,10 @@ HostRanking drasumira_coherence_default(const u32 *text, usize n, u32 small, TAB
     const u32 *included, usize included_n, u32 *work, usize work_n, CoherenceMatch *matches, usize matches_n);
 HostRead drasumira_write_utf8(const u32 *text, usize n, u8 *out, usize room);
 HostRanking drasumira_merge(const CoherenceMatch *list, usize list_words, const u32 *lengths, usize rankings, CoherenceMatch *out, usize out_words);
+HostOpened *drasumira_open(HostOpened *told, u32 length, float threshold, TABLES);
+HostRead drasumira_feed(HostRunning *state, u32 point, TABLES);
+HostRead drasumira_feed_all(HostRunning *state, const u32 *text, usize n, TABLES);
+HostScore *drasumira_close(HostScore *told, const HostRunning *state);
 HostRing drasumira_ring_open(const u8 *ring, usize n);
 HostRing drasumira_ring_put(u8 *ring, usize n, u32 head, u32 count, u64 line, u32 bits, u32 fed, u32 stopped, u32 refusal);
 HostRing drasumira_ring_flush(const u8 *ring, usize n, u32 head, u32 count, u32 most, u8 *out, usize room);
@@ -53,6 +60,7 @@ static u8 bytes[LONGEST], back[LONGEST], pairs[32768], language[1032], ring[LONG
 static u16 page[128];
 static CoherenceMatch matches[1], list[MERGED], merged[MERGED];
 static HostScore told;
+static HostOpened opened;
 static usize n;
 static u32 number; /* of the last answer */
 
@@ -80,6 +88,10 @@ static void merge(void) {
     }
     number = drasumira_merge(list, 2 * n, each, RANKINGS, merged, 2 * n).number;
 }
+static void open_line(void) { number = drasumira_open(&opened, n, 9, LENT)->number; }
+static void feed(void) { open_line(), number = drasumira_feed(&opened.state, 'a', LENT).number; }
+static void feed_all(void) { open_line(), number = drasumira_feed_all(&opened.state, text, n, LENT).number; }
+static void close_line(void) { feed_all(), number = drasumira_close(&told, &opened.state)->number; }
 static void ring_open(void) { number = drasumira_ring_open(ring, LONGEST).number; }
 static void ring_put(void) { number = drasumira_ring_put(ring, LONGEST, 0, 0, n, 0, 1, 0, 0).number; }
 static void ring_flush(void) { number = drasumira_ring_flush(ring, LONGEST, 0, 1, 1, flushed, LONGEST).number; }
@@ -102,6 +114,7 @@ int main(void) {
         {"score_lines", score_lines, LONGEST}, {"verdict", verdict, LONGEST}, {"choose", choose, LONGEST},
         {"coherence", coherence, RANKED}, {"coherence_default", coherence_default, RANKED},
         {"write_utf8", write_utf8, LONGEST}, {"merge", merge, MERGED},
+        {"open", open_line, LONGEST}, {"feed", feed, LONGEST}, {"feed_all", feed_all, LONGEST}, {"close", close_line, LONGEST},
         {"ring_open", ring_open, LONGEST}, {"ring_put", ring_put, LONGEST}, {"ring_flush", ring_flush, LONGEST},
     };
     static const usize lengths[] = {80, 256, 257, MERGED, 4096, 4097, RANKED, LONGEST};
