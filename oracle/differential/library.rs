@@ -95,6 +95,24 @@ pub struct HostOpened {
     pub state: [u32; RUNNING],
 }
 
+#[repr(C)]
+#[derive(Clone, Copy, Debug, Default, PartialEq)]
+pub struct HostReason {
+    pub number: u32,
+    pub place: u32,
+    pub detector: u32,
+    pub count: u32,
+}
+
+#[repr(C)]
+#[derive(Clone, Copy, Debug, Default, PartialEq)]
+pub struct HostClass {
+    pub number: u32,
+    pub place: u32,
+    pub flags: u32,
+    pub range: u32,
+}
+
 // A struct of more than 16 bytes comes back through the first pointer, which is also returned.
 unsafe extern "C" {
     fn drasumira_open(
@@ -117,6 +135,29 @@ unsafe extern "C" {
         pairs_n: usize,
     ) -> HostRead;
     fn drasumira_close(told: *mut HostScore, state: *const u32) -> *mut HostScore;
+    fn drasumira_class(point: u32, classes: *const u8, n: usize) -> HostClass;
+    fn drasumira_reason(
+        text: *const u32,
+        n: usize,
+        threshold: f32,
+        classes: *const u8,
+        classes_n: usize,
+        pairs: *const u8,
+        pairs_n: usize,
+        out: *mut u32,
+        room: usize,
+    ) -> HostReason;
+    fn drasumira_reason_utf8(
+        bytes: *const u8,
+        n: usize,
+        threshold: f32,
+        classes: *const u8,
+        classes_n: usize,
+        pairs: *const u8,
+        pairs_n: usize,
+        out: *mut u32,
+        room: usize,
+    ) -> HostReason;
     fn drasumira_check_classes(classes: *const u8, n: usize) -> HostRead;
     fn drasumira_read(bytes: *const u8, n: usize, out: *mut u32, room: usize) -> HostRead;
     fn drasumira_read_page(page: *const u16, entries: usize, bytes: *const u8, n: usize, out: *mut u32, room: usize) -> HostRead;
@@ -364,4 +405,18 @@ pub fn close_line(state: &Guarded<u32>) -> HostScore {
     let back = unsafe { drasumira_close(at, state.list().as_ptr()) };
     assert!(back == at, "the first pointer is returned");
     told
+}
+
+pub fn reason(text: &[u32], threshold: f32, lent: &Lent, out: &mut Guarded<u32>) -> HostReason {
+    let (c, p, o) = (lent.classes.list(), lent.pairs.list(), out.list_mut());
+    unsafe { drasumira_reason(text.as_ptr(), text.len(), threshold, c.as_ptr(), c.len(), p.as_ptr(), p.len(), o.as_mut_ptr(), o.len()) }
+}
+
+pub fn reason_utf8(bytes: &[u8], threshold: f32, lent: &Lent, out: &mut Guarded<u32>) -> HostReason {
+    let (c, p, o) = (lent.classes.list(), lent.pairs.list(), out.list_mut());
+    unsafe { drasumira_reason_utf8(bytes.as_ptr(), bytes.len(), threshold, c.as_ptr(), c.len(), p.as_ptr(), p.len(), o.as_mut_ptr(), o.len()) }
+}
+
+pub fn class(point: u32, classes: &[u8]) -> HostClass {
+    unsafe { drasumira_class(point, classes.as_ptr(), classes.len()) }
 }

@@ -11,6 +11,7 @@ mod library;
 mod lines;
 mod pages;
 mod random;
+mod reasons;
 mod merge;
 mod ring;
 mod running;
@@ -56,7 +57,9 @@ struct Run {
     refused: u64,
     stopped: u64,
     met: [u64; 8], // the accepted texts of which a ratio is not 0, by ratio
-    cut: [u64; 8], // those of which it was cut off
+    cut: [u64; 8],     // those of which it was cut off
+    reasons: [u64; 9], // the texts whose reason is each detector, 0 for none
+    newlines: u64,     // the lists that end with the newline
     coherence: coherence::Tally,
     random: Random,
     part: &'static str,
@@ -613,7 +616,7 @@ fn main() {
         }
         _ => {
             eprintln!(
-                "usage: differential quick|full|survey-once|survey-twice TABLES [SEED [scoring|reading|pages|writing|coherence|merges|rings|running]]"
+                "usage: differential quick|full|survey-once|survey-twice TABLES [SEED [scoring|reading|pages|writing|coherence|merges|reasons|rings|running]]"
             );
             std::process::exit(2)
         }
@@ -629,6 +632,8 @@ fn main() {
         stopped: 0,
         met: [0; 8],
         cut: [0; 8],
+        reasons: [0; 9],
+        newlines: 0,
         coherence,
         random: Random::new(seed),
         part: "",
@@ -641,7 +646,7 @@ fn main() {
     walls::watch();
     eprintln!("seed {seed}, over {}", env!("LIBRARY"));
     for name in
-        ["scoring", "reading", "pages", "writing", "coherence", "merges", "rings", "running"].into_iter().filter(|name| part.is_none_or(|part| part == *name))
+        ["scoring", "reading", "pages", "writing", "coherence", "merges", "reasons", "rings", "running"].into_iter().filter(|name| part.is_none_or(|part| part == *name))
     {
         run.part = name;
         match name {
@@ -651,6 +656,7 @@ fn main() {
             "writing" => run.all_writing(&classes),
             "coherence" => run.coherence(&classes, &pairs, &languages),
             "merges" => run.all_merges(),
+            "reasons" => run.all_reasons(&classes, &pairs),
             "rings" => run.all_rings(),
             _ => run.all_running(&classes, &pairs),
         }

@@ -17,11 +17,14 @@ typedef struct { u32 taken, refused, number, place; } HostVerdict;
 typedef struct { u32 taken, length, number, place; } HostChosen;
 typedef struct { u32 number, place, count; } HostRanking;
 typedef struct { u32 number, place, head, count; } HostRing;
+typedef struct { u32 number, place, detector, count; } HostReason;
+typedef struct { u32 number, place, flags, range; } HostClass;
 typedef struct { u32 numbers[48]; } HostRunning;
 typedef struct { u32 number, place; HostRunning state; } HostOpened;
 typedef struct { u32 language; float score; } CoherenceMatch;
 
 _Static_assert(sizeof(HostRead) == 12 && sizeof(HostVerdict) == 16 && sizeof(HostChosen) == 16 && sizeof(HostRing) == 16, "by value");
+_Static_assert(sizeof(HostReason) == 16 && sizeof(HostClass) == 16, "by value");
 _Static_assert(sizeof(HostRanking) == 12 && sizeof(CoherenceMatch) == 8, "the ranking's");
 _Static_assert(sizeof(HostScore) == 148 && sizeof(HostOpened) == 200, "through the first pointer");
 _Static_assert(sizeof(HostRunning) == 192, "lent");
@@ -49,6 +52,9 @@ HostOpened *drasumira_open(HostOpened *told, u32 length, float threshold, TABLES
 HostRead drasumira_feed(HostRunning *state, u32 point, TABLES);
 HostRead drasumira_feed_all(HostRunning *state, const u32 *text, usize n, TABLES);
 HostScore *drasumira_close(HostScore *told, const HostRunning *state);
+HostReason drasumira_reason(const u32 *text, usize n, float threshold, TABLES, u32 *out, usize room);
+HostReason drasumira_reason_utf8(const u8 *bytes, usize n, float threshold, TABLES, u32 *out, usize room);
+HostClass drasumira_class(u32 point, const u8 *classes, usize classes_n);
 HostRing drasumira_ring_open(const u8 *ring, usize n);
 HostRing drasumira_ring_put(u8 *ring, usize n, u32 head, u32 count, u64 line, u32 bits, u32 fed, u32 stopped, u32 refusal);
 HostRing drasumira_ring_flush(const u8 *ring, usize n, u32 head, u32 count, u32 most, u8 *out, usize room);
@@ -92,6 +98,9 @@ static void open_line(void) { number = drasumira_open(&opened, n, 9, LENT)->numb
 static void feed(void) { open_line(), number = drasumira_feed(&opened.state, 'a', LENT).number; }
 static void feed_all(void) { open_line(), number = drasumira_feed_all(&opened.state, text, n, LENT).number; }
 static void close_line(void) { feed_all(), number = drasumira_close(&told, &opened.state)->number; }
+static void reason(void) { number = drasumira_reason(text, n, 9, LENT, out, LONGEST).number; }
+static void reason_utf8(void) { number = drasumira_reason_utf8(bytes, n, 9, LENT, out, LONGEST).number; }
+static void class(void) { number = drasumira_class('a', 0, 0).number; }
 static void ring_open(void) { number = drasumira_ring_open(ring, LONGEST).number; }
 static void ring_put(void) { number = drasumira_ring_put(ring, LONGEST, 0, 0, n, 0, 1, 0, 0).number; }
 static void ring_flush(void) { number = drasumira_ring_flush(ring, LONGEST, 0, 1, 1, flushed, LONGEST).number; }
@@ -115,6 +124,7 @@ int main(void) {
         {"coherence", coherence, RANKED}, {"coherence_default", coherence_default, RANKED},
         {"write_utf8", write_utf8, LONGEST}, {"merge", merge, MERGED},
         {"open", open_line, LONGEST}, {"feed", feed, LONGEST}, {"feed_all", feed_all, LONGEST}, {"close", close_line, LONGEST},
+        {"reason", reason, LONGEST}, {"reason_utf8", reason_utf8, LONGEST}, {"class", class, LONGEST},
         {"ring_open", ring_open, LONGEST}, {"ring_put", ring_put, LONGEST}, {"ring_flush", ring_flush, LONGEST},
     };
     static const usize lengths[] = {80, 256, 257, MERGED, 4096, 4097, RANKED, LONGEST};

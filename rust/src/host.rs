@@ -1,4 +1,4 @@
-// The library's entries by the C ABI (docs/HOST.md). All that is `unsafe` in this package stands here, in host/coherence.rs, in host/ring.rs and in host/running.rs: each slice
+// The library's entries by the C ABI (docs/HOST.md). All that is `unsafe` in this package stands here, in host/coherence.rs, in host/ring.rs, in host/running.rs and in host/why.rs: each slice
 // crosses as pointer and length, and a struct of more than 16 bytes comes back through the first pointer, which is also returned.
 //
 // What every call of an entry rests on, and what "as above" at each `unsafe` means: pointer and length are those of one Rust slice, so they are
@@ -7,6 +7,7 @@
 pub mod coherence;
 pub mod ring;
 pub mod running;
+pub mod why;
 
 use std::mem::offset_of;
 

@@ -35,6 +35,7 @@ mod ring;
 mod running;
 mod second;
 mod text;
+mod why;
 mod writing;
 
 pub use chooser::{RefusedText, Which, choose, verdict};
@@ -46,6 +47,7 @@ pub use ring::{MOST_RECORDS, RECORD, Record, Ring};
 pub use running::{RUNNING_NUMBERS, Running};
 pub use second::{Apart, NotAgreed, SECOND_LONGEST, agreed, second_score};
 pub use text::{Part, Text};
+pub use why::{Class, Why, class, why, why_into};
 pub use writing::{to_string, write_utf8};
 
 /// A class table and a pair table. The class table is checked when this is made.

@@ -4,3 +4,4 @@ pub mod Host
 pub mod Lent
 pub mod Matches
 pub mod Tokens
+pub mod Why

@@ -2,3 +2,4 @@ pub mod Chosen
 pub mod Host
 pub mod Matches
 pub mod Running
+pub mod Why

@@ -3,10 +3,14 @@ ghost use mathlib.Core.Path.{_≡_};
 ghost use Rattle.host.specs.Chosen.{hostChosen};
 ghost use Rattle.ratio.specs.Shown.{noneShown};
 ghost use Rattle.host.specs.Host.{hostCounted, hostShown, hostCounts, hostScore, hostVerdict, hostRing};
+ghost use Rattle.base.specs.declared.Cause.the-variants.{Allowed};
 ghost use Rattle.host.specs.Matches.{hostMerged};
+ghost use Rattle.host.specs.Why.{hostReason, hostClass};
 use crate::HostChosen;
+use crate::HostClass;
 use crate::HostCounts;
 use crate::HostRead;
+use crate::HostReason;
 use crate::HostRing;
 use crate::HostScore;
 use crate::HostShown;
@@ -14,10 +18,13 @@ use crate::HostVerdict;
 use base::Counted;
 use base::one;
 use base::refusals::ACCEPTED;
+use base::refusals::UNCLASSED;
 use cd_list::HostRanking;
+use classes::Found;
 use md::Scored;
 use md_chooser::Judged;
 use md_chooser::Part;
+use md_reason::Reasoned;
 use ratio::EightShown;
 use ratio::Shown;
 use ratio::rounding::no_ratios;
@@ -192,6 +199,45 @@ pub fn flat_merged(counted: Counted) -> HostRanking
             number: ACCEPTED,
             place: 0,
             count,
+        },
+    }
+}
+
+pub fn flat_reasoned(reasoned: Reasoned) -> HostReason
+    ensures { λ r. ⌜ r ≡ hostReason reasoned ⌝ }
+{
+    match reasoned {
+        Reasoned::Refused(r) => HostReason {
+            number: r.number,
+            place: r.place,
+            detector: 0,
+            count: 0,
+        },
+        Reasoned::Told(why) => HostReason {
+            number: ACCEPTED,
+            place: 0,
+            detector: why.detector,
+            count: why.count,
+        },
+    }
+}
+
+// What was found in a class table that was checked.
+pub fn flat_found(found: Found) -> HostClass
+    ensures { λ r. ⌜ r ≡ hostClass Allowed found ⌝ }
+{
+    match found {
+        Found::Nothing => HostClass {
+            number: UNCLASSED,
+            place: 0,
+            flags: 0,
+            range: 0,
+        },
+        Found::At(class) => HostClass {
+            number: ACCEPTED,
+            place: 0,
+            flags: class.flags,
+            range: class.range,
         },
     }
 }

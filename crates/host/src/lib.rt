@@ -23,12 +23,20 @@ ghost use Rattle.host.specs.Matches.{hostRanking, hostMerged};
 ghost use Rattle.host.specs.Running.{fedHost, chunkHost, closedHost};
 ghost use Rattle.md_running.specs.Opening.{openLine};
 ghost use Rattle.md_lent.specs.Lent.{hostOpened};
+ghost use Rattle.classes.specs.Check.{badClasses};
+ghost use Rattle.classes.specs.Lookup.{classOf};
+ghost use Rattle.md_reason.specs.Reason.{reasonAnswer, reasonInto};
+ghost use Rattle.md_reason.specs.ReasonUtf8.{utf8Answer, utf8Into};
+ghost use Rattle.host.specs.Why.{hostReason, hostClass};
+use base::Cause;
 use cd_list::HostRanking;
 use cd_ranking::CoherenceMatch;
 use flat::flat_chosen;
 use flat::flat_counted;
+use flat::flat_found;
 use flat::flat_judged;
 use flat::flat_merged;
+use flat::flat_reasoned;
 use flat::flat_ringed;
 use flat::flat_scored;
 use md_lent::HostOpened;
@@ -100,6 +108,24 @@ pub struct HostRing {
     pub place: u32,
     pub head: u32,
     pub count: u32,
+}
+
+// The answer of a reason: a refusal's number and place, or zeros, the detector and how many indexes are listed.
+#[repr(C)]
+pub struct HostReason {
+    pub number: u32,
+    pub place: u32,
+    pub detector: u32,
+    pub count: u32,
+}
+
+// What a code point is: a refusal's number and place, or zeros, its flags and its range.
+#[repr(C)]
+pub struct HostClass {
+    pub number: u32,
+    pub place: u32,
+    pub flags: u32,
+    pub range: u32,
 }
 
 // Whether a class table is good: the number of its records, or refusal 5 and its place.
@@ -439,4 +465,53 @@ pub extern "C" fn drasumira_close(state: &HostRunning) -> HostScore
     ensures { λ r. ⌜ r ≡ closedHost (now (state .entry)) ⌝ }
 {
     closed_flat(*state)
+}
+
+// Why a text is noise: the first detector with the greatest ratio, and the indexes at which its numerator grew into the first places of out.
+#[no_mangle]
+pub extern "C" fn drasumira_reason(
+    text: &[u32],
+    threshold: f32,
+    classes: &[u8],
+    pairs: &[u8],
+    out: &mut [u32],
+) -> HostReason
+    ensures { λ r. ⌜ r ≡ hostReason (reasonAnswer (now (text .entry)) threshold (now (classes .entry)) (now (pairs .entry)) (length (now (out .entry)))) ⌝ }
+    ensures { λ _. ⌜ now (out .exit) ≡ reasonInto (now (text .entry)) threshold (now (classes .entry)) (now (pairs .entry)) (now (out .entry)) ⌝ }
+{
+    flat_reasoned(md_reason::reason(text, threshold, classes, pairs, out))
+}
+
+// The same of the text that UTF-8 bytes are; the indexes are in code points.
+#[no_mangle]
+pub extern "C" fn drasumira_reason_utf8(
+    bytes: &[u8],
+    threshold: f32,
+    classes: &[u8],
+    pairs: &[u8],
+    out: &mut [u32],
+) -> HostReason
+    ensures { λ r. ⌜ r ≡ hostReason (utf8Answer (now (bytes .entry)) threshold (now (classes .entry)) (now (pairs .entry)) (length (now (out .entry)))) ⌝ }
+    ensures { λ _. ⌜ now (out .exit) ≡ utf8Into (now (bytes .entry)) threshold (now (classes .entry)) (now (pairs .entry)) (now (out .entry)) ⌝ }
+{
+    flat_reasoned(md_reason::utf8_bytes::reason_utf8(bytes, threshold, classes, pairs, out))
+}
+
+// What a code point is, by the built-in table or the lent one.
+#[no_mangle]
+pub extern "C" fn drasumira_class(point: u32, classes: &[u8]) -> HostClass
+    ensures { λ r. ⌜ r ≡ hostClass (badClasses (now (classes .entry))) (classOf (now (classes .entry)) point) ⌝ }
+{
+    match classes::bad_classes(classes) {
+        Cause::Refused(why) => HostClass {
+            number: why.number,
+            place: why.place,
+            flags: 0,
+            range: 0,
+        },
+        Cause::Allowed => {
+            let table = class_builtin::table();
+            flat_found(classes::look_up_in(point, &table, classes))
+        }
+    }
 }
