@@ -1,6 +1,6 @@
-// Two thresholds (02 [12]): what the library answers at the lower and at the higher one, held to the three sentences, by the whole call, by UTF-8 bytes and
-// by the crate's own answers.
-use crate::library::{self, HostScore, Lent};
+// Two thresholds (02 [12]): what the library answers at the lower and at the higher one, held to the three sentences, by the whole call, by UTF-8 bytes, by
+// two lines that are opened, fed and closed, and by the crate's own answers.
+use crate::library::{self, Guarded, HostScore, Lent, WORD};
 use crate::texts::{self, Alphabet};
 use crate::{Run, hex, oracle_score, sum_after};
 
@@ -19,6 +19,13 @@ fn fault(low: &HostScore, high: &HostScore) -> Option<&'static str> {
         return Some("both stop early at the same place, and the answers differ");
     }
     (low.stopped == 0 && high.stopped == 1).then_some("the higher one stops early and the lower one does not")
+}
+
+// The answer of a line that is opened, fed in one call and closed.
+fn fed(text: &[u32], threshold: f32, lent: &Lent) -> HostScore {
+    let mut state = Guarded::new(&library::open_line(text.len() as u32, threshold, lent).state, WORD);
+    library::feed_all(&mut state, text, lent);
+    library::close_line(&state)
 }
 
 impl Run {
@@ -51,10 +58,13 @@ impl Run {
             one += (low.stopped & (1 - high.stopped)) as u64;
             let bytes: String = crate::chars(&text).into_iter().collect();
             let of_bytes = [t, u].map(|x| library::score_utf8(bytes.as_bytes(), Some(x), lent));
+            let of_lines = [t, u].map(|x| fed(&text, x, lent));
             let never = library::score(&text, Some(HIGHEST.next_up()), lent);
             let said = fault(&low, &high)
                 .or(fault(&of_bytes[0], &of_bytes[1]))
+                .or(fault(&of_lines[0], &of_lines[1]))
                 .or((of_bytes != [low, high]).then_some("bytes have another answer than their text"))
+                .or((of_lines != [low, high]).then_some("a line that is fed has another answer than its text"))
                 .or((never.stopped == 1).then_some("a sum lies above the highest"))
                 .or((low != oracle_score(&text, Some(t)) || high != oracle_score(&text, Some(u))).then_some("the crate answers otherwise"));
             if let Some(said) = said {
