@@ -243,6 +243,7 @@ unsafe extern "C" {
     ) -> HostChosen;
     fn drasumira_write_utf8(text: *const u32, n: usize, out: *mut u8, room: usize) -> HostRead;
     fn drasumira_merge(list: *const u32, n: usize, lengths: *const u32, rankings: usize, out: *mut u32, room: usize) -> HostRead;
+    fn drasumira_report(rows: *const u32, n: usize, out: *mut u8, room: usize) -> HostRead;
     fn drasumira_ring_open(ring: *const u8, n: usize) -> HostRing;
     fn drasumira_ring_put(
         ring: *mut u8,
@@ -364,6 +365,10 @@ pub fn verdict(first: &[u32], second: &[u32], lent: &Lent) -> HostVerdict {
 pub fn choose(first: &[u32], second: &[u32], lent: &Lent) -> HostChosen {
     let (c, p) = (lent.classes.list(), lent.pairs.list());
     unsafe { drasumira_choose(first.as_ptr(), first.len(), second.as_ptr(), second.len(), c.as_ptr(), c.len(), p.as_ptr(), p.len()) }
+}
+
+pub fn report(rows: &[u32], out: &mut [u8]) -> HostRead {
+    unsafe { drasumira_report(rows.as_ptr(), rows.len(), out.as_mut_ptr(), out.len()) }
 }
 
 pub fn ring_open(ring: &[u8]) -> HostRing {

@@ -79,7 +79,7 @@ impl Run {
     }
 
     // The bytes of some lines, many of them empty or damaged, the last with its 0A or without.
-    fn some_lines(&mut self, alphabet: &Alphabet) -> Vec<u8> {
+    pub fn some_lines(&mut self, alphabet: &Alphabet) -> Vec<u8> {
         let mut bytes = vec![];
         for _ in 0..self.random.below(12) {
             let n = match self.random.below(8) {

@@ -9,6 +9,7 @@ mod coherence;
 mod edges;
 mod library;
 mod lines;
+mod merge;
 mod pages;
 mod random;
 mod reasons;

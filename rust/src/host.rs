@@ -103,6 +103,7 @@ unsafe extern "C" {
     fn drasumira_read_page(page: *const u16, entries: usize, bytes: *const u8, n: usize, out: *mut u32, room: usize) -> HostRead;
     fn drasumira_write_page(page: *const u16, entries: usize, text: *const u32, n: usize, out: *mut u8, room: usize) -> HostRead;
     fn drasumira_write_utf8(text: *const u32, n: usize, out: *mut u8, room: usize) -> HostRead;
+    fn drasumira_report(rows: *const u32, n: usize, out: *mut u8, room: usize) -> HostRead;
     fn drasumira_score(told: *mut HostScore, text: *const u32, n: usize, threshold: f32,
         classes: *const u8, classes_n: usize, pairs: *const u8, pairs_n: usize) -> *mut HostScore;
     fn drasumira_second_score(told: *mut HostScore, text: *const u32, n: usize, threshold: f32,
@@ -140,6 +141,11 @@ pub fn write_page(page: &[u16], text: &[u32], out: &mut [u8]) -> HostRead {
 pub fn write_utf8(text: &[u32], out: &mut [u8]) -> HostRead {
     // SAFETY: as above.
     unsafe { drasumira_write_utf8(text.as_ptr(), text.len(), out.as_mut_ptr(), out.len()) }
+}
+
+pub fn report(rows: &[u32], out: &mut [u8]) -> HostRead {
+    // SAFETY: as above.
+    unsafe { drasumira_report(rows.as_ptr(), rows.len(), out.as_mut_ptr(), out.len()) }
 }
 
 pub fn score(text: &[u32], threshold: f32, classes: &[u8], pairs: &[u8]) -> HostScore {

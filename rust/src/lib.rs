@@ -31,6 +31,7 @@ mod detector;
 mod host;
 mod page;
 mod refusal;
+mod report;
 mod ring;
 mod running;
 mod second;
@@ -43,6 +44,7 @@ pub use coherence::{CoherenceMatch, Languages, TOO_SMALL_SEQUENCE, coherence, la
 pub use detector::{Detector, Share};
 pub use page::Page;
 pub use refusal::Refusal;
+pub use report::{LONGEST_REPORT, MOST_LINES, Report};
 pub use ring::{MOST_RECORDS, RECORD, Record, Ring};
 pub use running::{RUNNING_NUMBERS, Running};
 pub use second::{Apart, NotAgreed, SECOND_LONGEST, agreed, second_score};
