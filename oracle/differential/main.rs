@@ -9,9 +9,9 @@ mod coherence;
 mod edges;
 mod library;
 mod lines;
-mod merge;
 mod pages;
 mod random;
+mod report;
 mod reasons;
 mod merge;
 mod ring;
@@ -617,7 +617,7 @@ fn main() {
         }
         _ => {
             eprintln!(
-                "usage: differential quick|full|survey-once|survey-twice TABLES [SEED [scoring|reading|pages|writing|coherence|merges|reasons|rings|running]]"
+                "usage: differential quick|full|survey-once|survey-twice TABLES [SEED [scoring|reading|pages|writing|coherence|merges|reasons|reports|rings|running]]"
             );
             std::process::exit(2)
         }
@@ -647,7 +647,7 @@ fn main() {
     walls::watch();
     eprintln!("seed {seed}, over {}", env!("LIBRARY"));
     for name in
-        ["scoring", "reading", "pages", "writing", "coherence", "merges", "reasons", "rings", "running"].into_iter().filter(|name| part.is_none_or(|part| part == *name))
+        ["scoring", "reading", "pages", "writing", "coherence", "merges", "reasons", "reports", "rings", "running"].into_iter().filter(|name| part.is_none_or(|part| part == *name))
     {
         run.part = name;
         match name {
@@ -658,6 +658,7 @@ fn main() {
             "coherence" => run.coherence(&classes, &pairs, &languages),
             "merges" => run.all_merges(),
             "reasons" => run.all_reasons(&classes, &pairs),
+            "reports" => run.all_reports(&classes, &pairs),
             "rings" => run.all_rings(),
             _ => run.all_running(&classes, &pairs),
         }

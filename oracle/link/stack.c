@@ -48,6 +48,7 @@ HostRanking drasumira_coherence_default(const u32 *text, usize n, u32 small, TAB
     const u32 *included, usize included_n, u32 *work, usize work_n, CoherenceMatch *matches, usize matches_n);
 HostRead drasumira_write_utf8(const u32 *text, usize n, u8 *out, usize room);
 HostRanking drasumira_merge(const CoherenceMatch *list, usize list_words, const u32 *lengths, usize rankings, CoherenceMatch *out, usize out_words);
+HostRead drasumira_report(const u32 *rows, usize n, u8 *out, usize room);
 HostOpened *drasumira_open(HostOpened *told, u32 length, float threshold, TABLES);
 HostRead drasumira_feed(HostRunning *state, u32 point, TABLES);
 HostRead drasumira_feed_all(HostRunning *state, const u32 *text, usize n, TABLES);
@@ -94,6 +95,7 @@ static void merge(void) {
     }
     number = drasumira_merge(list, 2 * n, each, RANKINGS, merged, 2 * n).number;
 }
+static void report(void) { number = drasumira_report(text, n, flushed, LONGEST).number; }
 static void open_line(void) { number = drasumira_open(&opened, n, 9, LENT)->number; }
 static void feed(void) { open_line(), number = drasumira_feed(&opened.state, 'a', LENT).number; }
 static void feed_all(void) { open_line(), number = drasumira_feed_all(&opened.state, text, n, LENT).number; }
@@ -122,7 +124,7 @@ int main(void) {
         {"score_default", score_default, LONGEST}, {"second_score", second_score, SECOND_LONGEST}, {"score_utf8", score_utf8, LONGEST}, {"score_utf8_default", score_utf8_default, LONGEST},
         {"score_lines", score_lines, LONGEST}, {"verdict", verdict, LONGEST}, {"choose", choose, LONGEST},
         {"coherence", coherence, RANKED}, {"coherence_default", coherence_default, RANKED},
-        {"write_utf8", write_utf8, LONGEST}, {"merge", merge, MERGED},
+        {"write_utf8", write_utf8, LONGEST}, {"merge", merge, MERGED}, {"report", report, LONGEST},
         {"open", open_line, LONGEST}, {"feed", feed, LONGEST}, {"feed_all", feed_all, LONGEST}, {"close", close_line, LONGEST},
         {"reason", reason, LONGEST}, {"reason_utf8", reason_utf8, LONGEST}, {"class", class, LONGEST},
         {"ring_open", ring_open, LONGEST}, {"ring_put", ring_put, LONGEST}, {"ring_flush", ring_flush, LONGEST},
