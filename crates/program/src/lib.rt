@@ -10,7 +10,7 @@ use md::Scored;
 use md::unscored;
 use md_utf8::mess_ratio_utf8;
 
-mod line;
+pub mod line;
 
 // Bytes of standard input that are scored; more are refused as 1.
 pub const LONGEST_INPUT: usize = 4096;

@@ -1,19 +1,19 @@
--- One law for each way in which `report` returns (`many-lines`, `no-room`, `written`).
+-- One law for each way in which `report` returns (`many-lines`, `no-room`, `written`); and that a text that was written had room (`count-fits`).
 -- Assumes nothing.
 use Prim.Native.Nat.{ℕ, _≤_, _<_}
 use mathlib.Core.Path.{_≡_, sym, ap, _∙_}
 use mathlib.Core.List.{List, [], _∷_}
 use native.Mathlib.Omega.{arith}
 use lib.ListN.{length}
-use borrow.Author.Tests.{lt-ltb, le-ltb}
+use borrow.Author.Tests.{lt-ltb, le-ltb, ltb-false}
 use Rattle.base.specs.declared.Counted.{Counted}
 use Rattle.base.specs.declared.Counted.the-variants.{Count}
 use Rattle.base.specs.Causes.{refusedAt, firstOf}
 use Rattle.base.specs.Counted.{countUnless}
 use Rattle.base.specs.Put.{put}
 use Rattle.base.specs.Refusals.{MANY-LINES, NO-ROOM}
-use Rattle.base.proofs.Laws.Causes.{first-given, first-passed}
-use Rattle.base.proofs.Laws.Counted.{counted-allowed, counted-at, after-allowed, after-refused}
+use Rattle.base.proofs.Laws.Causes.{first-given, first-passed, first-free, given-free}
+use Rattle.base.proofs.Laws.Counted.{counted-allowed, counted-at, count-allowed, count-is, after-allowed, after-refused}
 use Rattle.md_report.specs.Rows.{linesIn}
 use Rattle.md_report.specs.Text.{reportText}
 use Rattle.md_report.specs.Report.{MOST-LINES, manyLines, noRoom, reportCauses, reportAnswer, reportInto}
@@ -46,3 +46,11 @@ module _ (rows out : List ℕ) where
       written new h p =
           let f = few-lines ∙ first-passed [] _ NO-ROOM 0 (le-ltb (length out) (length (reportText rows)) (omega (arith, e))) in
           (ap Count e ∙ sym (counted-allowed _ _ f), p ∙ sym (after-allowed _ out _ f))
+
+-- a text that was written had room
+pub count-fits : (rows : List ℕ) (room n : ℕ) → reportAnswer rows room ≡ Count n → n ≤ room
+unfolding reportAnswer reportCauses noRoom
+count-fits rows room n e =
+    let free = first-free (manyLines rows) _ (count-allowed _ _ n e) in
+    let short = ltb-false room (length (reportText rows)) (given-free _ NO-ROOM 0 (first-free _ [] (free .1) .0)) in
+    omega (arith, short, count-is _ _ n e)
