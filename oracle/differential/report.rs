@@ -98,7 +98,8 @@ impl Run {
         let mut row: Vec<u32> = (0..ROW).map(|_| self.random.next() as u32).collect();
         row[0] = if self.random.below(4) == 0 { *self.random.pick(&[1, 2, 3, 6, 18, 19, 20, 21, 1 << 31, u32::MAX]) } else { 0 };
         for detector in 0..DETECTORS {
-            row[2 + detector] = *self.random.pick(&[0, 0x8000_0000, 1, 0x8000_0001, 0x3F80_0000, 0x7F80_0000, 0x7FC0_0000, u32::MAX, 0x3E99_999A]);
+            row[2 + detector] =
+                *self.random.pick(&[0, 0x8000_0000, 1, 0x8000_0001, 0x3F80_0000, 0x7F80_0000, 0x7FC0_0000, u32::MAX, 0x3E99_999A]);
             (row[13 + 3 * detector], row[14 + 3 * detector]) = self.fraction();
             row[15 + 3 * detector] = *self.random.pick(&[0, 1, u32::MAX]);
         }

@@ -42,7 +42,16 @@ fn bins_of_rows() -> Result<(), Refusal> {
     };
     let mut month = Report::new();
     let one = 1.0f32.to_bits();
-    for numbers in [(one, 1, 65), (one, 1, 64), (one, 8, 1), (one, u32::MAX, 1), (one, 1 << 26, 1 << 26), (0, 5, 5), ((-0.0f32).to_bits(), 5, 5), (one, 5, 0)] {
+    for numbers in [
+        (one, 1, 65),
+        (one, 1, 64),
+        (one, 8, 1),
+        (one, u32::MAX, 1),
+        (one, 1 << 26, 1 << 26),
+        (0, 5, 5),
+        ((-0.0f32).to_bits(), 5, 5),
+        (one, 5, 0),
+    ] {
         month.add_rows(&row(numbers.0, numbers.1, numbers.2))?;
     }
     assert_eq!(month.bins(Detector::Archaic), [(0, 4), (1, 1), (64, 1), (512, 2)]);
