@@ -79,14 +79,16 @@ impl Run {
         let records = tables::records(classes);
         let (alphabet, shelves) = (&Alphabet::new(&records), &Shelves::new(&records, pairs));
         let lent = &Lent::new(classes, pairs);
-        self.during("reasons of aimed texts", |run| run.aimed_reasons(run.times(120, 2_000), shelves, lent));
-        self.during("each detector the greatest", |run| run.every_greatest(run.times(250, 4_000), alphabet, shelves, lent));
+        self.during("reasons of aimed texts", |run| run.aimed_reasons(run.times(300, 6_000), shelves, lent));
+        self.during("each detector the greatest", |run| run.every_greatest(run.times(4_000, 80_000), alphabet, shelves, lent));
         self.during("ratios that round alike", |run| run.alike(lent));
-        self.during("room for a reason", |run| run.rooms_of_reasons(run.times(300, 4_000), alphabet, lent));
-        self.during("reasons with lent tables", |run| run.lent_reasons(run.times(20, 300)));
+        self.during("room for a reason", |run| run.rooms_of_reasons(run.times(600, 10_000), alphabet, lent));
+        self.during("reasons with lent tables", |run| run.lent_reasons(run.times(60, 1_000)));
         self.during("causes of a reason", |run| run.causes_of_reasons(run.times(4, 60), classes, pairs));
         self.during("reasons of the longest texts", |run| run.longest_reasons(alphabet, run.times(1, 8), lent));
-        self.during("reasons of bytes, and the Rust package's", |run| run.package_reasons(alphabet, run.times(300, 6_000), classes, pairs));
+        self.during("reasons of bytes, and the Rust package's", |run| {
+            run.package_reasons(alphabet, run.times(1_000, 20_000), classes, pairs)
+        });
         self.during("what a code point is", |run| run.every_class(classes, &records));
         eprintln!("reasons by detector, none first: {:?}; lists that end with the newline: {}", self.reasons, self.newlines);
         if self.survey == 0 && (self.reasons.contains(&0) || self.newlines == 0) {

@@ -102,7 +102,7 @@ impl Tables {
 /// ```
 /// use drasumira::{Detector, Tables, score};
 /// let told = score("a, b; c!", None, &Tables::builtin_only())?;
-/// assert_eq!(told.share(Detector::Symbols).to_string(), "2 of 9, cut off");
+/// assert_eq!(told.share(Detector::Symbols).to_string(), "1 of 9, cut off");
 /// let noise = score("ab\u{1}", None, &Tables::builtin_only())?;
 /// assert_eq!(noise.share(Detector::Unprintable).to_string(), "8 of 4");
 /// let said: Vec<String> = noise.shares().filter(|(_, share)| share.ratio > 0.0).map(|(detector, share)| format!("{detector}: {share}")).collect();
