@@ -1,7 +1,7 @@
 // The command for people, run as a program: what it writes is compared whole.
 use drasumira::{
-    CoherenceMatch, DEFAULT_THRESHOLD, Languages, Page, Refusal, Score, TOO_SMALL_SEQUENCE, Tables, Which, coherence, language_name, merge,
-    score, score_lines, verdict,
+    CoherenceMatch, DEFAULT_THRESHOLD, Detector, Languages, Page, Refusal, Report, Score, TOO_SMALL_SEQUENCE, Tables, Which, coherence,
+    language_name, merge, score, score_lines, verdict, why_into,
 };
 use std::io::{Read, Write};
 use std::path::PathBuf;
@@ -55,6 +55,16 @@ fn file(name: &str, bytes: &[u8]) -> String {
 }
 
 #[test]
+fn readme_begins_with_it() {
+    let readme = include_str!("../../README.md");
+    let shown: Vec<&str> = readme.lines().skip_while(|line| *line != "    $ drasumira why rust/examples/console.log").skip(1).collect();
+    let shown: Vec<&str> = shown.into_iter().map_while(|line| line.strip_prefix("    ")).collect();
+    let told = run(&["why", "rust/examples/console.log"], b"");
+    assert_eq!(told.out.lines().collect::<Vec<_>>(), shown);
+    assert_eq!((told.status, &*told.err), (1, ""));
+}
+
+#[test]
 fn a_row_for_each_line() {
     let told = run(&["score"], b"plain\n\x01\n\nab\xFF\n  ");
     let rows = "-\t1\t0\t6\tno\t-\t-\t-
@@ -68,13 +78,73 @@ fn a_row_for_each_line() {
 }
 
 #[test]
+fn why_in_words() {
+    let noise = "-:2: noise: score 4, threshold 0.15; unprintable characters: 8 of 2
+    [\\u{1}]
+    U+0001 once, unprintable
+";
+    assert_eq!(run(&["why"], b"plain\n\x01\n"), ran(1, noise, ""));
+    let all = "-:1: readable: score 0, threshold 0.15; no detector found anything\n    plain\n";
+    assert_eq!(run(&["why", "--all"], b"plain\n\x01\n"), ran(1, &format!("{all}{noise}"), ""));
+    assert_eq!(run(&["why"], b"plain\n"), ran(0, "", ""));
+    let refused = "-:1: refused: not UTF-8 at byte 0, counted from 0; try --page windows-1252, windows-1251 or iso-8859-2\n";
+    assert_eq!(run(&["why"], b"\xFF\n"), ran(2, refused, ""));
+}
+
+#[test]
+fn noise_at_the_end_without_a_stop() {
+    // 8 of 47 behind the last character: the only checkpoint, at 32, has seen nothing
+    let line = format!("{}\u{1}", " ".repeat(45));
+    assert!(!score(&*line, None, &Tables::full()).unwrap().stopped);
+    let told = run(&["why"], line.as_bytes());
+    let words = format!(
+        "-:1: noise: score 0.17021276, threshold 0.15; unprintable characters: 8 of 47
+    {}[\\u{{1}}]
+    U+0001 once, unprintable
+",
+        " ".repeat(45)
+    );
+    assert_eq!(told, ran(1, &words, ""));
+    assert_eq!(run(&["why", "--threshold", "0.2"], line.as_bytes()), ran(0, "", ""));
+    assert_eq!(run(&["why", "--threshold=0.2"], line.as_bytes()), ran(0, "", ""));
+}
+
+#[test]
+fn marks_end_where_the_scan_stopped() {
+    let line = "\u{1}".repeat(40);
+    let words = format!(
+        "-:1: noise: score 8, threshold 0.15; unprintable characters: 256 of 32
+    [{}]{}
+    stopped at character 32 of 40
+    U+0001 32 times, unprintable
+",
+        "\\u{1}".repeat(32),
+        "\\u{1}".repeat(8)
+    );
+    assert_eq!(run(&["why"], line.as_bytes()), ran(1, &words, ""));
+}
+
+#[test]
+fn marks_beside_wide_combining_and_right_to_left() {
+    // the marked control characters stand between; a combining character behind a mark gets a circle of its own
+    let told = run(&["why"], "日\u{1}本 e\u{301}\u{2}\u{301} ש\u{3}לום [x]\n".as_bytes());
+    let line = told.out.lines().nth(1).unwrap();
+    assert_eq!(line, "    日[[\\u{1}]]本 e\u{301}[[\\u{2}]]\u{25CC}\u{301} ש[[\\u{3}]]לום [x]");
+}
+
+#[test]
 fn nothing_raw() {
     // every control character, what turns the direction, what has no width, what is not assigned
     let points = (0..0x20).chain(0x7F..0xA1).chain([0xAD, 0x61C, 0x180E]).chain(0x200B..0x2010).chain(0x2028..0x202F).chain(0x2060..0x2070);
     let points = points.chain([0xFEFF, 0xFFF9, 0xFFFE, 0xE000, 0x378, 0xE0001, 0xE0041, 0x10FFFF]).filter(|point| *point != 0x0A);
     let text: String = points.flat_map(char::from_u32).flat_map(|c| [c, 'a', '\n']).collect();
     let name = file("raw \u{1B}[2J.log", text.as_bytes());
-    for words in [&["score", &*name][..], &["score", "--json", &name], &["compare", "--page", "utf-8", "--page", "utf-8", &name]] {
+    for words in [
+        &["why", &*name][..],
+        &["why", "--all", "--json", &name],
+        &["score", &name],
+        &["compare", "--page", "utf-8", "--page", "utf-8", &name],
+    ] {
         let told = run(words, b"");
         assert_eq!(told.status, if words[0] == "compare" { 0 } else { 1 });
         let raw = |c: &char| !matches!(c, '\t' | '\n') && c.escape_debug().next() != Some(*c) && !matches!(c, '\\' | '"' | '\'');
@@ -84,16 +154,27 @@ fn nothing_raw() {
 }
 
 #[test]
+fn objects() {
+    let told = run(&["why", "--json", "--all"], b"plain\n\x01\"\n\xFF\n");
+    let lines = r#"{"file":"-","line":1,"noise":false,"score":0,"threshold":0.15,"fed":6,"stopped":false,"detector":null,"numerator":null,"denominator":null,"indexes":[],"characters":[],"text":"plain"}
+{"file":"-","line":2,"noise":true,"score":2.6666667,"threshold":0.15,"fed":3,"stopped":false,"detector":"unprintable characters","numerator":8,"denominator":3,"indexes":[0],"characters":[{"point":"U+0001","what":"unprintable","count":1}],"text":"\u0001\""}
+{"file":"-","line":3,"refused":2,"place":0,"words":"not UTF-8 at byte 0, counted from 0; try --page windows-1252, windows-1251 or iso-8859-2"}
+"#;
+    assert_eq!(told, ran(2, lines, ""));
+    let told = run(&["score", "--json"], b"\x01");
+    let line = r#"{"file":"-","line":1,"noise":true,"score":4,"threshold":0.15,"fed":2,"stopped":false,"detector":"unprintable characters","numerator":8,"denominator":2}
+"#;
+    assert_eq!(told, ran(1, line, ""));
+}
+
+#[test]
 fn a_missing_file_and_the_next() {
     let there = file("there.log", b"plain\n");
     let told = run(&["score", "no/such.log", &there, "rust"], b"");
     let row = format!("{there}\t1\t0\t6\tno\t-\t-\t-\n");
     let err = "drasumira: no/such.log: No such file or directory (os error 2)\ndrasumira: rust: Is a directory (os error 21)\n";
     assert_eq!(told, ran(2, &format!("{HEAD}{row}"), err));
-    assert_eq!(
-        run(&["score", "--json", "--", "--no-such"], b""),
-        ran(2, "", "drasumira: --no-such: No such file or directory (os error 2)\n")
-    );
+    assert_eq!(run(&["why", "--", "--no-such"], b""), ran(2, "", "drasumira: --no-such: No such file or directory (os error 2)\n"));
 }
 
 #[test]
@@ -104,19 +185,19 @@ fn bad_words() {
         told.err
     };
     let tells = "; drasumira --help tells more\n";
-    assert_eq!(said(&[]), format!("drasumira: a command is missing: score, languages or compare{tells}"));
+    assert_eq!(said(&[]), format!("drasumira: a command is missing: why, score, languages, compare or report{tells}"));
     assert_eq!(said(&["whi\u{1B}"]), format!("drasumira: there is no command whi\\u{{1B}}{tells}"));
-    assert_eq!(said(&["score", "--al"]), format!("drasumira: score has no option --al{tells}"));
+    assert_eq!(said(&["why", "--al"]), format!("drasumira: why has no option --al{tells}"));
     assert_eq!(said(&["score", "--all"]), format!("drasumira: score has no option --all{tells}"));
-    assert_eq!(said(&["score", "--threshold"]), format!("drasumira: --threshold wants a word behind it{tells}"));
-    assert_eq!(said(&["score", "--threshold", "a"]), format!("drasumira: --threshold wants a number, and a is none{tells}"));
-    assert_eq!(said(&["score", "--threshold", "NaN"]), "drasumira: --threshold must be a finite number\n");
-    assert_eq!(said(&["score", "--threshold", "1e39"]), "drasumira: --threshold must be a finite number\n");
+    assert_eq!(said(&["why", "--threshold"]), format!("drasumira: --threshold wants a word behind it{tells}"));
+    assert_eq!(said(&["why", "--threshold", "a"]), format!("drasumira: --threshold wants a number, and a is none{tells}"));
+    assert_eq!(said(&["why", "--threshold", "NaN"]), "drasumira: --threshold must be a finite number\n");
+    assert_eq!(said(&["why", "--threshold", "1e39"]), "drasumira: --threshold must be a finite number\n");
     let page = "drasumira: there is no page koi8-r: utf-8, windows-1251, windows-1252 and iso-8859-2 are there";
-    assert_eq!(said(&["score", "--page", "koi8-r"]), format!("{page}{tells}"));
+    assert_eq!(said(&["why", "--page", "koi8-r"]), format!("{page}{tells}"));
     assert_eq!(said(&["compare", "--page", "utf-8"]), format!("drasumira: compare wants --page twice: the two readings to compare{tells}"));
     assert_eq!(
-        said(&["score", "--page", "utf-8", "--page", "utf-8"]),
+        said(&["why", "--page", "utf-8", "--page", "utf-8"]),
         format!("drasumira: --page stands there twice: only compare takes two{tells}")
     );
 }
@@ -124,8 +205,8 @@ fn bad_words() {
 #[test]
 fn help_and_version() {
     let help = run(&["--help"], b"");
-    assert!(help.out.starts_with("drasumira: which lines of a log are noise\n") && help.out.matches("console.log").count() == 2);
-    assert_eq!(run(&["score", "--help"], b""), help);
+    assert!(help.out.starts_with("drasumira: which lines of a log are noise, and why\n") && help.out.matches("console.log").count() == 2);
+    assert_eq!(run(&["why", "--help"], b""), help);
     let version = run(&["--version"], b"");
     let (first, second) = version.out.split_once('\n').unwrap();
     assert_eq!((first, version.status), (concat!("drasumira ", env!("CARGO_PKG_VERSION")), 0));
@@ -137,19 +218,23 @@ fn help_and_version() {
 fn lines_that_end_in_a_return() {
     let told = run(&["score"], b"plain\r\n\r\nplain\r\n");
     let tables = Tables::full();
-    let rows: String = ["plain\r", "\r", "plain\r"].iter().zip(1..).map(|(line, n)| row("-", n, &score(*line, None, &tables))).collect();
+    let rows: String = ["plain\r", "\r", "plain\r"]
+        .iter()
+        .zip(1..)
+        .map(|(line, n)| row("-", n, &score(*line, None, &tables), line.as_bytes(), &tables))
+        .collect();
     let note = "drasumira: lines end in U+000D before their newline: it is scored as a character of its line, as the library scores it\n";
     assert_eq!(told, ran(told.status, &format!("{HEAD}{rows}"), note));
 }
 
-// The row of a line, written a second time.
-fn row(file: &str, number: usize, told: &Result<Score, Refusal>) -> String {
+// The row of a line, written a second time. Which detector is named is what `why_into` says of the text.
+fn row(file: &str, number: usize, told: &Result<Score, Refusal>, text: &[u8], tables: &Tables) -> String {
     match told {
         Ok(score) => {
             let stopped = if score.stopped { "yes" } else { "no" };
-            let behind = match score.greatest() {
-                Some(detector) => format!("{detector}\t{}\t{}", score.share(detector).numerator, score.share(detector).denominator),
-                None => "-\t-\t-".to_string(),
+            let behind = match why_into(text, None, tables, &mut vec![0; text.len() + 1]).unwrap() {
+                (Some(detector), _) => format!("{detector}\t{}\t{}", score.share(detector).numerator, score.share(detector).denominator),
+                (None, _) => "-\t-\t-".to_string(),
             };
             format!("{file}\t{number}\t{}\t{}\t{stopped}\t{behind}\n", score.sum, score.fed)
         }
@@ -211,18 +296,20 @@ fn bytes_of_a_page() {
     let bytes = page.write(text).unwrap();
     let right = page.score(&bytes, None, &tables).unwrap();
     assert!(right.sum < DEFAULT_THRESHOLD);
-    let told = run(&["score", "--page=windows-1251"], &bytes);
-    assert!(told.out.starts_with(&format!("{HEAD}-\t1\t{}\t{}\t", right.sum, right.fed)) && told.status == 0);
-    let wrong = Page::windows_1252().score(&bytes, None, &tables).unwrap();
-    let told = run(&["score", "--page", "windows-1252"], &bytes);
-    assert!(told.out.starts_with(&format!("{HEAD}-\t1\t{}\t{}\t", wrong.sum, wrong.fed)) && told.status == 1);
+    assert_eq!(run(&["why", "--page", "windows-1251"], &bytes), ran(0, "", ""));
+    let wrong = run(&["why", "--page=windows-1252"], &bytes);
+    let told = Page::windows_1252().score(&bytes, None, &tables).unwrap();
+    assert!(wrong.out.starts_with(&format!("-:1: noise: score {}, threshold 0.15; ", told.sum)), "{}", wrong.out);
+    let read = Page::windows_1252().read(&bytes).unwrap();
+    let marked: String = wrong.out.lines().nth(1).unwrap().trim_start().chars().filter(|c| !matches!(c, '[' | ']')).collect();
+    assert_eq!(marked, read);
 }
 
 #[test]
 fn a_reader_that_goes_away() {
     let name = file("long.log", "plain\n\u{1}\n".repeat(200_000).as_bytes());
-    for words in [&["score", &*name][..], &["score", "--json", &name]] {
-        let mut child = command(words).stdout(Stdio::piped()).stderr(Stdio::piped()).spawn().unwrap();
+    for words in [["score", &name], ["why", &name]] {
+        let mut child = command(&words).stdout(Stdio::piped()).stderr(Stdio::piped()).spawn().unwrap();
         let mut some = [0; 100];
         child.stdout.take().unwrap().read_exact(&mut some).unwrap();
         let mut said = String::new();
@@ -240,13 +327,30 @@ fn on_a_terminal(line: &str, set: &[(&str, &str)]) -> Option<String> {
 }
 
 #[test]
+fn marks_on_a_terminal() {
+    let name = file("terminal.log", "plain\na\u{1B}[2Jb\n".as_bytes());
+    let line = format!("{} why {name}", env!("CARGO_BIN_EXE_drasumira"));
+    let Some(said) = on_a_terminal(&line, &[]) else { return };
+    let words = |open: &str, close: &str| {
+        let head = format!("{name}:2: noise: score 1.1428572, threshold 0.15; unprintable characters: 8 of 7");
+        format!("{head}\r\n    a{open}\\u{{1B}}{close}[2Jb\r\n    U+001B once, unprintable\r\n")
+    };
+    assert_eq!(said, words("\x1b[7m", "\x1b[0m"));
+    assert_eq!(on_a_terminal(&line, &[("NO_COLOR", "1")]).unwrap(), words("[[", "]]"));
+    assert_eq!(on_a_terminal(&line, &[("TERM", "dumb")]).unwrap(), words("[[", "]]"));
+    assert_eq!(on_a_terminal(&line, &[("NO_COLOR", "")]).unwrap(), words("\x1b[7m", "\x1b[0m"));
+    // not a terminal: a pipe
+    assert_eq!(on_a_terminal(&format!("{line} | cat"), &[]).unwrap(), words("[[", "]]"));
+}
+
+#[test]
 fn progress_where_somebody_sits() {
     // work that takes long, since its input does: told of on standard error alone
-    let slow = format!("(echo plain; sleep 1.3; echo plain) | {} score --json - >/dev/null", env!("CARGO_BIN_EXE_drasumira"));
+    let slow = format!("(echo plain; sleep 1.3; echo plain) | {} why -", env!("CARGO_BIN_EXE_drasumira"));
     let Some(said) = on_a_terminal(&slow, &[]) else { return };
     assert!(said.starts_with("\r\x1b[K12 bytes, ") && said.ends_with(" lines a second\r\x1b[K"), "{said:?}");
     assert_eq!(on_a_terminal(&format!("({slow}) 2>&1 | cat"), &[]).unwrap(), "");
-    assert_eq!(on_a_terminal(&format!("echo plain | {} score - >/dev/null", env!("CARGO_BIN_EXE_drasumira")), &[]).unwrap(), "");
+    assert_eq!(on_a_terminal(&format!("echo plain | {} why -", env!("CARGO_BIN_EXE_drasumira")), &[]).unwrap(), "");
 }
 
 // Lines of all kinds: words, letters of many scripts, control characters, bytes that are no UTF-8.
@@ -293,7 +397,8 @@ fn random_lines_as_the_library_says() {
     let (text, tables) = (random_lines(100_000), Tables::full());
     let name = file("random.log", &text);
     let told = score_lines(&text, None, &tables).unwrap();
-    let rows: Vec<String> = (0..told.len()).map(|at| row(&name, at + 1, &told[at])).collect();
+    let lines: Vec<&[u8]> = text.split(|b| *b == b'\n').collect();
+    let rows: Vec<String> = (0..told.len()).map(|at| row(&name, at + 1, &told[at], lines[at], &tables)).collect();
     let said = run(&["score", &name], b"");
     let mut kinds = [0; 3];
     for ((said, row), told) in said.out.lines().skip(1).zip(&rows).zip(&told) {
@@ -302,6 +407,25 @@ fn random_lines_as_the_library_says() {
     }
     assert_eq!((said.out.lines().count(), said.status, kinds.iter().sum()), (100_001, 2, 100_000));
     assert!(kinds.iter().all(|count| *count > 1_000), "readable, noise and refused: {kinds:?}");
+
+    // and `why` tells of the noisy and the refused ones, of each the characters that the library names
+    let said = run(&["why", "--json", &name], b"");
+    let mut objects = said.out.lines();
+    for (at, told) in told.iter().enumerate() {
+        let head = format!("{{\"file\":\"{name}\",\"line\":{},", at + 1);
+        match told {
+            Ok(score) if score.sum < DEFAULT_THRESHOLD => continue,
+            Ok(_) => {
+                let object = objects.next().unwrap();
+                let mut indexes = vec![0; lines[at].len() + 1];
+                let (_, count) = why_into(lines[at], None, &tables, &mut indexes).unwrap();
+                indexes.truncate(count);
+                assert!(object.starts_with(&format!("{head}\"noise\":true,")) && object.contains(&format!(",\"indexes\":{indexes:?},")));
+            }
+            Err(_) => assert!(objects.next().unwrap().starts_with(&format!("{head}\"refused\":2,"))),
+        }
+    }
+    assert_eq!((objects.next(), said.status), (None, 2));
 }
 
 #[test]
@@ -348,6 +472,52 @@ fn commas(number: usize) -> String {
     let digits = number.to_string();
     let groups: Vec<&[u8]> = digits.as_bytes().rchunks(3).rev().collect();
     groups.iter().map(|group| std::str::from_utf8(group).unwrap()).collect::<Vec<_>>().join(",")
+}
+
+#[test]
+fn a_report_of_all_files() {
+    let tables = Tables::full();
+    let text = b"plain\n\x01\x02\n\xFF\nd\xC3\xA9j\xC3\xA0 vu\n";
+    let mut month = Report::new();
+    for told in score_lines(text, None, &tables).unwrap().iter().chain(&score_lines("more", None, &tables).unwrap()) {
+        month.add(told).unwrap();
+    }
+    let (first, second) = (file("first <a>.log", text), file("second.log", b"more"));
+    assert_eq!(run(&["report", &first, &second], b""), ran(2, &month.to_string(), ""));
+    assert!(month.to_string().ends_with("lines 5\naccepted 4\nrefused 1\n"));
+    assert_eq!(run(&["report"], b""), ran(0, "lines 0\naccepted 0\nrefused 0\n", ""));
+    let told = run(&["report", "--json", "-"], b"\x01\n");
+    let bins: String = month_of(b"\x01\n", &tables);
+    assert_eq!(told, ran(1, &format!("{bins}{{\"lines\":1,\"accepted\":1,\"refused\":0}}\n"), ""));
+    // and the page for a browser: eight histograms, the totals, the cause; nothing from elsewhere
+    let page = file("page.html", b"");
+    assert_eq!(run(&["report", "--html", &page, &first, &second], b"").status, 2);
+    let page = std::fs::read_to_string(page).unwrap();
+    assert_eq!((page.matches("<svg").count(), page.matches("<script").count(), page.matches("http").count()), (8, 0, 0));
+    assert!(page.contains("first &lt;a&gt;.log, ") && page.contains("<tr><td>lines<td>5\n<tr><td>accepted<td>4\n<tr><td>refused<td>1\n"));
+    assert!(page.contains("<tr><td>not utf-8<td>1\n"));
+    // 8 times 2 of 3 characters: bin 341 of unprintable characters
+    assert!(page.contains("<b>unprintable characters</b>: 3 lines with nothing, 1 with something"));
+    assert!(page.contains("<rect x=\"341\" y=\"0\" width=\"1\" height=\"100\"><title>from 5.328125: 1 lines</title></rect>"));
+    let told = run(&["report", "--html", "no/such/page.html"], b"");
+    assert_eq!(told, ran(2, "lines 0\naccepted 0\nrefused 0\n", "drasumira: no/such/page.html: No such file or directory (os error 2)\n"));
+}
+
+// The bins of lines as objects of JSON.
+fn month_of(text: &[u8], tables: &Tables) -> String {
+    let mut month = Report::new();
+    score_lines(text, None, tables).unwrap().iter().for_each(|told| month.add(told).unwrap());
+    let bins = Detector::ALL.into_iter().flat_map(|detector| month.bins(detector).into_iter().map(move |bin| (detector, bin)));
+    bins.map(|(detector, (bin, count))| format!("{{\"detector\":\"{detector}\",\"bin\":{bin},\"lines\":{count}}}\n")).collect()
+}
+
+#[test]
+fn more_lines_than_a_report_takes() {
+    let told = run(&["report"], &b"a\n".repeat(65_536));
+    let words = "drasumira: a report takes 65535 lines at most: the lines behind them are left out; try fewer files at once\n";
+    assert_eq!((told.status, &*told.err), (2, words));
+    assert!(told.out.ends_with("lines 65535\naccepted 65535\nrefused 0\n"));
+    assert_eq!(run(&["report"], &b"a\n".repeat(65_535)).status, 0);
 }
 
 #[test]

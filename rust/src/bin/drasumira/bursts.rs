@@ -34,6 +34,8 @@ pub struct Told {
     pub refused: bool,
     // whether a line ends in U+000D
     pub returns: bool,
+    // for a report of all lines
+    pub scores: Vec<Result<Score, Refusal>>,
     lines: u64,
     read: u64,
 }
@@ -50,13 +52,20 @@ pub trait Teller: Sync {
 }
 
 /// A scored line.
-pub struct Line {
+pub struct Line<'a> {
     pub number: u64,
+    /// Its text, as UTF-8 where it was accepted.
+    pub text: &'a [u8],
     pub score: Result<Score, Refusal>,
 }
 
 /// Reads all files, has each burst told of, and writes what was told.
 pub fn run(options: &Options, tables: &Tables, output: &mut Output, teller: impl Teller) {
+    run_with(options, tables, output, teller, |_, _| ());
+}
+
+/// The same, and what was told of each burst is handed on besides, in order.
+pub fn run_with(options: &Options, tables: &Tables, output: &mut Output, teller: impl Teller, mut keep: impl FnMut(&Told, &mut Output)) {
     output.put(teller.head(options).as_bytes());
     output.expect(bytes_of(&options.files));
     let shared = Shared { options, tables };
@@ -87,6 +96,7 @@ pub fn run(options: &Options, tables: &Tables, output: &mut Output, teller: impl
                     output.found_refused();
                 }
                 output.put(&told.out);
+                keep(&told, output);
                 output.went_on(told.read, told.lines);
             }
         },
@@ -134,7 +144,7 @@ fn in_order<J: Send, A: Send>(
 }
 
 /// Scores the lines of a burst in one call of the library and hands each on.
-pub fn each_line(shared: &Shared<'_>, burst: &Burst, rows: &mut Vec<u32>, told: &mut Told, mut tell: impl FnMut(&mut Told, Line)) {
+pub fn each_line(shared: &Shared<'_>, burst: &Burst, rows: &mut Vec<u32>, told: &mut Told, mut tell: impl FnMut(&mut Told, Line<'_>)) {
     let (text, refused) = read_lines(shared.reading(), &burst.bytes);
     let room = NUMBERS_PER_LINE * count_lines(&burst.bytes);
     if rows.len() < room {
@@ -149,7 +159,7 @@ pub fn each_line(shared: &Shared<'_>, burst: &Burst, rows: &mut Vec<u32>, told: 
         told.noise |= score.is_ok_and(|score| score.sum >= shared.threshold());
         told.refused |= score.is_err();
         told.returns |= line.ends_with(b"\r");
-        tell(told, Line { number: burst.first + at as u64, score });
+        tell(told, Line { number: burst.first + at as u64, text: line, score });
     }
 }
 

@@ -2,13 +2,16 @@
 //! shows what was answered.
 mod bursts;
 mod compare;
+mod html;
 mod input;
 mod languages;
 mod options;
 mod output;
 mod reading;
+mod report;
 mod score;
 mod shown;
+mod why;
 
 use drasumira::Tables;
 use options::{Asked, Command, HELP, Options};
@@ -40,9 +43,15 @@ fn run(options: &Options, output: &mut Output) {
         return output.fail("--threshold must be a finite number");
     }
     match options.command {
+        Command::Why => bursts::run(options, &tables, output, why::Why::of(options)),
         Command::Score => bursts::run(options, &tables, output, score::Rows),
         Command::Compare => bursts::run(options, &tables, output, compare::Compare),
         Command::Languages => languages::run(options, &tables, output),
+        Command::Report => {
+            let mut month = report::Month::default();
+            bursts::run_with(options, &tables, output, report::Lines, |told, output| month.add(told, output));
+            month.tell(options, output);
+        }
     }
 }
 

@@ -4,32 +4,38 @@ use std::ffi::OsString;
 use std::path::PathBuf;
 
 pub const HELP: &str = "\
-drasumira: which lines of a log are noise
+drasumira: which lines of a log are noise, and why
 
+  drasumira why [FILE..]        the noisy lines, with what makes them so marked
   drasumira score [FILE..]      a row a line, with tabs: score, detector, counts
   drasumira languages [FILE..]  the languages a file may be in, the best first
   drasumira compare --page A --page B [FILE..]
                                 the more readable of two readings of each line
+  drasumira report [FILE..]     how all lines spread over each detector's ratios
 
   --threshold X  noise is a score of X or above (0.15 where it is not given);
                  in languages the least score that is told (0.1)
   --page P       utf-8 (where it is not given), windows-1251, windows-1252 or
                  iso-8859-2: how the bytes of a line are read
   --json         one JSON object a line
+  --all          why: tell of the readable lines too
+  --html OUT     report: write a page for a browser besides
   --help, --version
   FILE           - or none is standard input
 
 Status: 0 no noise, 1 noise found, 2 something could not be read or used.
 
-  drasumira score console.log
+  drasumira why console.log
   tail -f console.log | drasumira score --page windows-1251
 ";
 
 #[derive(Clone, Copy, Debug, PartialEq, Eq)]
 pub enum Command {
+    Why,
     Score,
     Languages,
     Compare,
+    Report,
 }
 
 #[derive(Debug)]
@@ -40,6 +46,8 @@ pub struct Options {
     // one reading; of `compare` two
     pub readings: Vec<Reading>,
     pub json: bool,
+    pub all: bool,
+    pub html: Option<PathBuf>,
 }
 
 #[derive(Debug)]
@@ -49,12 +57,18 @@ pub enum Asked {
     Run(Options),
 }
 
-const COMMANDS: [(&str, Command); 3] = [("score", Command::Score), ("languages", Command::Languages), ("compare", Command::Compare)];
+const COMMANDS: [(&str, Command); 5] = [
+    ("why", Command::Why),
+    ("score", Command::Score),
+    ("languages", Command::Languages),
+    ("compare", Command::Compare),
+    ("report", Command::Report),
+];
 
 /// Reads the words of the command line: a command first, then options and files in any order; `--` ends the options.
 pub fn asked(words: impl Iterator<Item = OsString>) -> Result<Asked, String> {
     let mut words = words;
-    let first = words.next().ok_or("a command is missing: score, languages or compare")?;
+    let first = words.next().ok_or("a command is missing: why, score, languages, compare or report")?;
     let first = first.to_string_lossy();
     match &*first {
         "--help" | "-h" | "help" => return Ok(Asked::Help),
@@ -63,7 +77,7 @@ pub fn asked(words: impl Iterator<Item = OsString>) -> Result<Asked, String> {
     }
     let command = COMMANDS.into_iter().find(|(name, _)| *name == first).map(|(_, command)| command);
     let command = command.ok_or_else(|| format!("there is no command {}", shown(&first)))?;
-    let mut options = Options { command, files: vec![], threshold: None, readings: vec![], json: false };
+    let mut options = Options { command, files: vec![], threshold: None, readings: vec![], json: false, all: false, html: None };
     while let Some(word) = words.next() {
         let Some(option) = word.to_str().filter(|word| word.len() > 1 && word.starts_with('-')) else {
             options.files.push(word.into());
@@ -78,6 +92,8 @@ pub fn asked(words: impl Iterator<Item = OsString>) -> Result<Asked, String> {
             "--threshold" => options.threshold = Some(number(&value()?)?),
             "--page" => options.readings.push(page(&value()?)?),
             "--json" => options.json = true,
+            "--all" if command == Command::Why => options.all = true,
+            "--html" if command == Command::Report => options.html = Some(value()?.into()),
             "--help" | "-h" => return Ok(Asked::Help),
             "--version" => return Ok(Asked::Version),
             "--" => options.files.extend(words.by_ref().map(PathBuf::from)),

@@ -34,7 +34,7 @@ pub fn put(out: &mut Vec<u8>, words: std::fmt::Arguments<'_>) {
     out.write_fmt(words).expect("memory can be written");
 }
 
-fn put_row(out: &mut Vec<u8>, file: &Name, line: &Line, score: &Score) {
+fn put_row(out: &mut Vec<u8>, file: &Name, line: &Line<'_>, score: &Score) {
     let stopped = if score.stopped { "yes" } else { "no" };
     put(out, format_args!("{}\t{}\t{}\t{}\t{stopped}\t", file.shown, line.number, score.sum, score.fed));
     match score.greatest() {
@@ -46,7 +46,8 @@ fn put_row(out: &mut Vec<u8>, file: &Name, line: &Line, score: &Score) {
     }
 }
 
-fn put_verdict(out: &mut Vec<u8>, shared: &Shared<'_>, file: &Name, line: &Line, score: &Score, detector: Option<Detector>) {
+// Without its closing brace: `why` has more to say.
+pub fn put_verdict(out: &mut Vec<u8>, shared: &Shared<'_>, file: &Name, line: &Line<'_>, score: &Score, detector: Option<Detector>) {
     let (number, noise) = (line.number, score.sum >= shared.threshold());
     put(out, format_args!("{{\"file\":{},\"line\":{number},\"noise\":{noise},\"score\":{}", file.json, score.sum));
     put(out, format_args!(",\"threshold\":{},\"fed\":{},\"stopped\":{}", shared.threshold(), score.fed, score.stopped));
@@ -59,13 +60,13 @@ fn put_verdict(out: &mut Vec<u8>, shared: &Shared<'_>, file: &Name, line: &Line,
     }
 }
 
-fn put_object(out: &mut Vec<u8>, shared: &Shared<'_>, file: &Name, line: &Line, score: &Score) {
+fn put_object(out: &mut Vec<u8>, shared: &Shared<'_>, file: &Name, line: &Line<'_>, score: &Score) {
     put_verdict(out, shared, file, line, score, score.greatest());
     out.extend_from_slice(b"}\n");
 }
 
 /// A refused line as an object of JSON.
-fn put_refused(out: &mut Vec<u8>, shared: &Shared<'_>, file: &Name, line: &Line, refusal: Refusal) {
+pub fn put_refused(out: &mut Vec<u8>, shared: &Shared<'_>, file: &Name, line: &Line<'_>, refusal: Refusal) {
     let words = shared.reading().words(refusal);
     put(out, format_args!("{{\"file\":{},\"line\":{},\"refused\":{},\"place\":{}", file.json, line.number, refusal.number, refusal.place));
     put(out, format_args!(",\"words\":{}}}\n", json(&words)));

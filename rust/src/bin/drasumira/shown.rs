@@ -15,6 +15,11 @@ pub fn is_plain(c: char) -> bool {
     }
 }
 
+/// Whether it is shown over the character before it: an accent that comes by itself, say.
+pub fn is_combining(c: char) -> bool {
+    !c.is_ascii() && is_plain(c) && c.escape_debug().next() != Some(c)
+}
+
 /// Puts a character as it may be shown.
 pub fn put_char(out: &mut Vec<u8>, c: char) {
     if is_plain(c) {
@@ -73,6 +78,12 @@ mod tests {
         assert_eq!(text("\u{202E}\u{200B}\u{2028}\u{FEFF}\u{E0041}\u{E000}"), "\\u{202E}\\u{200B}\\u{2028}\\u{FEFF}\\u{E0041}\\u{E000}");
         let plain = "é日本 \u{3000}שלום e\u{301} \\ ' \" \u{1F600}";
         assert_eq!(text(plain), plain);
+    }
+
+    #[test]
+    fn combining() {
+        assert!(is_combining('\u{301}') && is_combining('\u{5B8}'));
+        assert!(['e', 'é', '日', '\u{200D}', '\u{1B}', '"', '\'', '\\'].into_iter().all(|c| !is_combining(c)));
     }
 
     #[test]
