@@ -4,7 +4,7 @@
 use Prim.Native.Nat.{ℕ, zero, suc, _+_, _≤_, _<_}
 use mathlib.Core.Path.{_≡_, refl}
 use mathlib.Core.List.{List, [], _∷_}
-use mathlib.Core.Bool.{true, false}
+use mathlib.Core.Bool.{Bool, true, false}
 use native.Mathlib.Nat.{le-of-suc-le-suc, not-suc-le-zero}
 use native.Mathlib.Numerals.{add-one}
 use native.Mathlib.Omega.{arith}
@@ -20,7 +20,9 @@ use Rattle.classes.specs.declared.Found.{Found}
 use Rattle.classes.specs.declared.Found.the-variants.{At, Nothing}
 use Rattle.classes.proofs.Laws.Lookup.{class-lawful}
 use Rattle.class_records.specs.Records.{goodTable}
-use Rattle.md_eight.specs.Detectors.{start, lastRange}
+use Rattle.ratio.specs.declared.EightCounts.{EightCounts}
+use Rattle.md_eight.specs.declared.Detectors.{Detectors}
+use Rattle.md_eight.specs.Detectors.{start, counts, lastRange}
 use Rattle.md_eight.proofs.Loops.Detectors.{Within, start-within, feed-within, start-last, feed-last}
 use Rattle.md.specs.declared.Limit.{Limit}
 use Rattle.md.specs.declared.Limit.the-variants.{Threshold, Never}
@@ -28,8 +30,8 @@ use Rattle.md.specs.declared.Score.{Score}
 use Rattle.md.specs.declared.Scored.{Scored}
 use Rattle.md.specs.declared.Scored.the-variants.{Score as Told, Refused as NotScored}
 use Rattle.md.specs.Text.{charAt}
-use Rattle.md.specs.Scan.{fed, classIn, classAt, unclassed, stateAt, reaches, unless}
-use Rattle.md.specs.Inner.Scan.{refused}
+use Rattle.md.specs.Scan.{fed, classIn, classAt, unclassed, stateAt, reaches, sumOf, scored, unless}
+use Rattle.md.specs.Inner.Scan.{refused, answered}
 
 -- inside a list it does not matter what would stand past its end
 pub getD-any : (l : List ℕ) (i a b : ℕ) → i < length l → getD l i a ≡ getD l i b
@@ -105,3 +107,8 @@ pub unless-score : (c : Cause) (x : Scored) (s : Score) → unless c x ≡ Told 
 unfolding unless
 unless-score Allowed x s e = (refl, e)
 unless-score (Refused r) x s e = let z : _≡_ {A = ℕ} 0 1 = cc in absurd (omega arith)
+
+-- the answer that the counts of a state make is the state's
+pub answered-state : (c : EightCounts) (s : Detectors) (n : ℕ) (early : Bool) → c ≡ counts s → answered c n early ≡ scored s n early
+unfolding answered scored sumOf
+answered-state c s n early e = rw e

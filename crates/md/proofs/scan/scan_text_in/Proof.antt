@@ -4,7 +4,7 @@ use Prim.Native.Nat.{_-_}
 use mathlib.Core.Path.{sym, _∙_}
 use native.Mathlib.Omega.{arith}
 use Rattle.md.proofs.Loops.Going.{Going, going-start, going-room, going-countable, going-range, going-missing, fed-countable, going-on, going-stopped, going-ended}
-use Rattle.md.proofs.Laws.Scan.{class-range}
+use Rattle.md.proofs.Laws.Scan.{class-range, answered-state}
 use Rattle.md.proofs.scan.scan_text_in.Statement.{statement}
 use Rattle.md.proofs.scan.scan_text_in.Tie as tie
 
@@ -117,14 +117,20 @@ loop-again c =
     (c .before .is-over .ensures)
     (c .if1 .left)
 
-cast-scored : tie.Need-cast-scored Inv-loop μ-loop
-cast-scored c = omega arith
+counts-requires : tie.Need-counts-requires Inv-loop μ-loop
+counts-requires c κs = going-countable _ _ _ _ (c .before .loop .inv) (omega arith)
 
-scored-requires : tie.Need-scored-requires Inv-loop μ-loop
-scored-requires c κs = going-countable _ _ _ _ (c .before .loop .inv) (omega arith)
+cast-answered : tie.Need-cast-answered Inv-loop μ-loop
+cast-answered c = omega arith
+
+answered-requires : tie.Need-answered-requires Inv-loop μ-loop
+answered-requires c κs = rw (c .counts .ensures) (going-countable _ _ _ _ (c .before .before .loop .inv) (omega arith))
 
 returns-3 : tie.Need-returns-3 Inv-loop μ-loop
-returns-3 c = c .scored .ensures ∙ going-ended _ _ _ _ (c .before .before .loop .inv) (c .before .loop-test .left)
+returns-3 c =
+    c .answered .ensures
+    ∙ answered-state _ _ _ _ (c .before .counts .ensures)
+    ∙ going-ended _ _ _ _ (c .before .before .before .loop .inv) (c .before .before .loop-test .left)
 
 pub scan-text-in-spec : {M : Type 1} → statement M
 scan-text-in-spec =
@@ -148,6 +154,7 @@ scan-text-in-spec =
     add-i
     loop-less
     loop-again
-    cast-scored
-    scored-requires
+    counts-requires
+    cast-answered
+    answered-requires
     returns-3)

@@ -1,19 +1,15 @@
--- The ratios, their sum and the counts are made once from the state that the definition names. Assumes nothing.
-use Rattle.md.specs.Scan.{scored, sumOf}
+-- The counts are those of the state that the definition names. Assumes nothing.
+use mathlib.Core.Path.{_∙_}
+use Rattle.md.proofs.Laws.Scan.{answered-state}
 use borrow.Author.Needs.{needs}
 use Rattle.md.proofs.scan.scored.Statement.{statement}
 use Rattle.md.proofs.scan.scored.Tie as tie
 
+answered-requires : tie.Need-answered-requires
+answered-requires c κs = rw (c .counts .ensures) (c .before .pre)
+
 returns : tie.Need-returns
-unfolding scored sumOf
-returns c = cc
+returns c = c .answered .ensures ∙ answered-state _ _ _ _ (c .before .counts .ensures)
 
 pub scored-spec : {M : Type 1} → statement M
-scored-spec =
-    tie.close
-    (tie.spec
-    (λ c κs. search needs)
-    (λ c κs. search needs)
-    (λ c κs. search needs)
-    (λ c κs. search needs)
-    returns)
+scored-spec = tie.close (tie.spec (λ c κs. search needs) answered-requires returns)
