@@ -22,9 +22,9 @@ def law_among_definitions(tree):
 
 def believed_word_inside(tree):
     inner = tree / "crates/md/specs/Inner/Strange.antt"
-    inner.write_text("-- Assumes nothing.\nuse lib.Ieee.{Float, ofBits, binary32}\n\nabbrev pub DEFAULT : Float\nDEFAULT = ofBits binary32 0x3E4CCCCD\n", encoding="utf-8")
+    inner.write_text("-- Assumes nothing.\nuse lib.Ieee.{Float, ofBits, binary32}\n\nabbrev pub DEFAULT : Float\nDEFAULT = ofBits binary32 0x3E19999A\n", encoding="utf-8")
     page = tree / "crates/md/specs/MessRatio.antt"
-    changed(page, "DEFAULT-THRESHOLD = ofBits binary32 0x3E4CCCCD", "DEFAULT-THRESHOLD = DEFAULT")
+    changed(page, "DEFAULT-THRESHOLD = ofBits binary32 0x3E19999A", "DEFAULT-THRESHOLD = DEFAULT")
     changed(page, "use Rattle.md.specs.Scan", "use Rattle.md.specs.Inner.Strange.{DEFAULT}\nuse Rattle.md.specs.Scan")
 
 

@@ -183,14 +183,20 @@ fn fed_lent(h: HostRunning, fed: Fed) -> LentFed
 pub fn feed_lent(h: HostRunning, point: u32, classes: &[u8], pairs: &[u8]) -> LentFed
     ensures { λ r. ⌜ r ≡ lent.fedLent h (feedLine (lent.runningOf h) point (now (classes .entry)) (now (pairs .entry))) ⌝ }
 {
-    fed_lent(h, md_running::feed_line(running_of(h), point, classes, pairs))
+    fed_lent(
+        h,
+        md_running::feed_line(running_of(h), point, classes, pairs),
+    )
 }
 
 // A chunk of characters of a line: all of them, or none.
 pub fn chunk_lent(h: HostRunning, text: &[u32], classes: &[u8], pairs: &[u8]) -> LentFed
     ensures { λ r. ⌜ r ≡ lent.fedLent h (feedChunk (lent.runningOf h) (now (text .entry)) (now (classes .entry)) (now (pairs .entry))) ⌝ }
 {
-    fed_lent(h, md_running::feed_chunk(running_of(h), text, classes, pairs))
+    fed_lent(
+        h,
+        md_running::feed_chunk(running_of(h), text, classes, pairs),
+    )
 }
 
 // The answer of a line that has arrived in full.

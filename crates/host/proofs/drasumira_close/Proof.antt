@@ -115,7 +115,7 @@ module _ {M : Type 1} (𝓤 : URA M) (H : Heap 𝓤) (A : Atoms 𝓤) (W : Given
         (init ! 7 refl (LL.lawful T.the-type T′.the-laws 𝓤 H A W .typed h _ was .0)) $
         shuts ! tt T.the-row q′ h (val h ∷ []) b o $ use0 W (raw (Finish 𝓤 H A at-mem run .pre to)) (asked was) $
         calls-at ! fm (Finish 𝓤 H A at-mem run) known to (and-then ! (load ! (from ! (stop !)) (look ! 6 refl)) (no-more !)) (λ u.
-        use1 W (later (some (λ (r : HostScore). (‵ ftrue ⊛ ‵ (N.the-row .own r (u ∷ []))) 
+        use1 W (later (some (λ (r : HostScore). (‵ ftrue ⊛ ‵ (N.the-row .own r (u ∷ [])))
         ⊛ raw (ensured 𝓤 H A finish.ended (finish.clauses 𝓤 H A at-mem run) tt (h, tt) tt r)))) (id⊢ 𝓤 _) $ await ! tt $ pick ! (λ r.
         split ! $ move ! (1 ∷ []) $ use1 W (raw (fact 𝓤 (r ≡ closedHost h))) (said r) $ heard ! (r ≡ closedHost h) (λ e. split ! $ drop ! $
         peeks ! N.the-row (Is N.the-row) (shows 𝓤 H A N.the-row) r (u ∷ []) (λ is.

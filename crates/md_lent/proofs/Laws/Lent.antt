@@ -65,5 +65,12 @@ mark-back false = refl
 pub back : (s : Running) (bits : ℕ) → ofBits binary32 bits ≡ s .threshold → runningOf (lentOf s bits) ≡ s
 unfolding runningOf lentOf eightLent growthsLent
 back s bits e =
-    simp (e, mark-back (s .stopped), mark-back (s .watched .eight .ranges .seen), mark-back (s .watched .eight .words .bad),
-    mark-back (s .watched .eight .words .watch), mark-back (s .watched .eight .archaic .ascii), mark-back (s .watched .eight .archaic .buf))
+    simp (
+      e,
+      mark-back (s .stopped),
+      mark-back (s .watched .eight .ranges .seen),
+      mark-back (s .watched .eight .words .bad),
+      mark-back (s .watched .eight .words .watch),
+      mark-back (s .watched .eight .archaic .ascii),
+      mark-back (s .watched .eight .archaic .buf),
+    )

@@ -163,31 +163,37 @@ module _ (text classes pairs : List ℕ) (t u : Float) (H : Higher t u) where
 
     both-stop : stopAt text classes pairs t < total text → stopAt text classes pairs u < total text → Both low high
     both-stop a b =
-        rw (stopped-is text classes pairs t low l a, stopped-is text classes pairs u high h b)
-        (record {
-          never-fewer = omega (arith, order);
-          same-whole = λ e. absurd (true≢false e);
-          same-place = λ e f p. let z : stopAt text classes pairs t + 1 ≡ stopAt text classes pairs u + 1 = p in ap (λ (k : ℕ). toldAt text classes pairs k true) (sym z);
-        }, λ e. refl)
+        rw (stopped-is text classes pairs t low l a, stopped-is text classes pairs u high h b) (
+          record {
+            never-fewer = omega (arith, order);
+            same-whole = λ e. absurd (true≢false e);
+            same-place = λ e f p. let z : stopAt text classes pairs t + 1 ≡ stopAt text classes pairs u + 1 = p in ap (λ (k : ℕ). toldAt text classes pairs k true) (sym z);
+          },
+          λ e. refl,
+        )
 
     lower-stops : stopAt text classes pairs t < total text → total text ≤ stopAt text classes pairs u → Both low high
     lower-stops a b =
-        rw (stopped-is text classes pairs t low l a, whole-is text classes pairs u high h b)
-        (record {
-          never-fewer = omega arith;
-          same-whole = λ e. absurd (true≢false e);
-          same-place = λ e f p. absurd (true≢false (sym f));
-        }, λ e. refl)
+        rw (stopped-is text classes pairs t low l a, whole-is text classes pairs u high h b) (
+          record {
+            never-fewer = omega arith;
+            same-whole = λ e. absurd (true≢false e);
+            same-place = λ e f p. absurd (true≢false (sym f));
+          },
+          λ e. refl,
+        )
 
     none-stops : total text ≤ stopAt text classes pairs t → Both low high
     none-stops a =
         let b : total text ≤ stopAt text classes pairs u = omega (arith, order) in
-        rw (whole-is text classes pairs t low l a, whole-is text classes pairs u high h b)
-        (record {
-          never-fewer = omega arith;
-          same-whole = λ e. refl;
-          same-place = λ e f p. refl;
-        }, λ e. e)
+        rw (whole-is text classes pairs t low l a, whole-is text classes pairs u high h b) (
+          record {
+            never-fewer = omega arith;
+            same-whole = λ e. refl;
+            same-place = λ e f p. refl;
+          },
+          λ e. e,
+        )
 
     compared : Both low high
     compared = split (stopAt text classes pairs t) (total text) (λ a. split (stopAt text classes pairs u) (total text) (both-stop a) (lower-stops a)) none-stops
