@@ -46,7 +46,7 @@ impl Subject<'_> {
     fn new<'a>(name: &str, n: usize, tables: &'a Tables) -> Subject<'a> {
         let text = text(name, n);
         let matches = vec![CoherenceMatch { language: 0, score: 0.0 }; tables.languages.len() / RECORD];
-        Subject { points: text.chars().map(|c| c as u32).collect(), text, tables, work: vec![0; 4 * n], matches }
+        Subject { points: text.chars().map(|c| c as u32).collect(), text, tables, work: vec![0; 8 * n], matches }
     }
 
     fn oracle(&self) -> Vec<(u32, u32)> {

@@ -11,6 +11,7 @@ use crate::library::{BYTE, Guarded, WORD};
 use crate::tables::{self, PAIR_BYTES};
 use crate::texts::Alphabet;
 use crate::{Run, chars, hex, smallest};
+use causes::{DOT_ABOVE, DOTTED_I, WORK_PER_POINT};
 use host::{CoherenceMatch, HostRanking, Question};
 use languages::Record;
 use oracle::open::{LENT, Lent};
@@ -18,7 +19,6 @@ use texts::{LONGEST, Letters};
 
 const CRATES_SMALL: u32 = 32;
 const MOST_TRIES: usize = 3_000; // shorter texts that are tried once a difference is found
-const DOTTED_I: u32 = 0x130;
 const ASTRAY: [u32; 5] = [0xD800, 0xDFFF, 0x110000, u32::MAX, 0xDABC];
 const NOT_FINITE: [u32; 5] = [0x7FC0_0000, 0xFFC0_0000, 0x7F80_0000, 0xFF80_0000, 0x7F80_0001];
 
@@ -137,7 +137,7 @@ fn expected(q: &Question, work: &[u32], matches: &[CoherenceMatch]) -> Outcome {
         Some((number, place)) => HostRanking { number, place, count: 0 },
         None => {
             let ranking = oracle_ranking(q);
-            work[..4 * q.text.len()].fill(0);
+            work.iter_mut().take(WORK_PER_POINT * q.text.len()).for_each(|word| *word = 0);
             matches[..ranking.len()].copy_from_slice(&ranking);
             HostRanking { number: 0, place: 0, count: ranking.len() as u32 }
         }
@@ -210,7 +210,7 @@ impl Run {
     // The same with a work area and a list that are just long enough, or longer.
     fn accepted_ranking(&mut self, case: &Case, tables: &Tables) {
         let (more_work, more_matches) = (self.random.below(3) * self.random.below(9), self.random.below(3));
-        self.ranked(case, tables, 4 * case.text.len() + more_work, tables.records() + more_matches);
+        self.ranked(case, tables, WORK_PER_POINT * case.text.len() + more_work, tables.records() + more_matches);
     }
 
     // The threshold at one of a ranking's scores, and the floats beside it.
@@ -245,12 +245,22 @@ impl Run {
         }
     }
 
-    // Texts in the crate's languages and of every script, with the crate's own tables and small.
+    // Now and then some of a text's i become U+0130, each or every one.
+    fn dot(&mut self, text: &mut [u32]) {
+        let of = self.random.below(4);
+        for p in text.iter_mut().filter(|p| matches!(**p, 0x49 | 0x69)) {
+            if of == 0 || of == 1 && self.random.below(3) == 0 {
+                *p = DOTTED_I;
+            }
+        }
+    }
+
+    // Texts in the crate's languages and of every script, U+0130 among them, with the crate's own tables and small.
     fn crates_tables(&mut self, times: usize, tables: &Tables, letters: &Letters, alphabet: &Alphabet, alphabets: &[Vec<u32>]) {
         for at in 0..times {
             let n = texts::length(&mut self.random);
             let mut text = if at % 4 == 0 { alphabet.text(&mut self.random, n) } else { letters.text(&mut self.random, alphabets, n) };
-            text.iter_mut().filter(|p| **p == DOTTED_I).for_each(|p| *p = 0x69);
+            self.dot(&mut text);
             let threshold = texts::threshold(&mut self.random);
             let included = texts::included(&mut self.random, &tables.numbers);
             let mut case = Case { text, threshold, small: CRATES_SMALL, included };
@@ -268,7 +278,7 @@ impl Run {
             self.counted();
             let n = texts::length(&mut self.random) + if at % 50 == 0 { LONGEST } else { 0 };
             let mut text = letters.text(&mut self.random, alphabets, n);
-            text.iter_mut().filter(|p| **p == DOTTED_I).for_each(|p| *p = 0x69);
+            self.dot(&mut text);
             let threshold = if at % 9 == 0 { Some(f32::NAN) } else { texts::threshold(&mut self.random) };
             let included = self.included_or_not(at % 7 == 0, &tables.numbers);
             let case = Case { text, threshold, small: CRATES_SMALL, included };
@@ -296,7 +306,7 @@ impl Run {
         }
     }
 
-    // The same tables lent to the oracle, with any small, and U+0130 among the letters.
+    // The same tables lent to the oracle, with any small, and more U+0130 among the letters.
     fn crates_tables_lent(&mut self, times: usize, tables: &Tables, letters: &Letters, alphabet: &Alphabet, alphabets: &[Vec<u32>]) {
         for at in 0..times {
             let n = texts::length(&mut self.random);
@@ -353,7 +363,7 @@ impl Run {
                 2 => letters.all.iter().copied().cycle().skip(self.random.below(letters.all.len())).take(n).collect(),
                 _ => letters.text(&mut self.random, alphabets, n),
             };
-            text.iter_mut().filter(|p| **p == DOTTED_I).for_each(|p| *p = 0x69);
+            self.dot(&mut text);
             let threshold = texts::threshold(&mut self.random);
             let included = texts::included(&mut self.random, &tables.numbers);
             self.accepted_ranking(&Case { text, threshold, small: CRATES_SMALL, included }, tables);
@@ -457,15 +467,16 @@ impl Run {
             let mut text: Vec<u32> = (0..n).map(|_| 0x20 + self.random.below(0x5F) as u32).collect();
             if has(7) {
                 // in no record, or, with no record at all, lowered to a letter that is in none
-                let stray = if few.is_empty() && self.random.below(2) == 0 { 0x181 } else { *self.random.pick(&ASTRAY) };
+                let lowered = few.is_empty() && self.random.below(2) == 0;
+                let stray = *self.random.pick(if lowered { &[0x181, DOTTED_I] } else { &ASTRAY });
                 let at = self.random.below(text.len() + 1);
                 text.insert(at, stray);
             }
             let threshold = if has(1) { Some(f32::from_bits(*self.random.pick(&NOT_FINITE))) } else { texts::threshold(&mut self.random) };
             let included = self.included_or_not(has(5), &some.iter().map(|record| record.number).collect::<Vec<_>>());
-            let (mut work, mut room) = (4 * text.len(), tables.records());
+            let (mut work, mut room) = (WORK_PER_POINT * text.len(), tables.records());
             if has(6) && work > 0 && (room == 0 || self.random.below(2) == 0) {
-                work -= 1 + self.random.below(work.min(5));
+                work -= 1 + self.random.below(work.min(5 * text.len()));
             } else if has(6) {
                 room = room.saturating_sub(1 + self.random.below(3));
             }
@@ -480,22 +491,76 @@ impl Run {
             let case = |threshold| Case { text: vec![0x61; n], threshold, small: CRATES_SMALL, included: vec![] };
             self.accepted_ranking(&case(None), own);
             self.accepted_ranking(&case(Some(f32::NAN)), own);
-            self.ranked(&case(None), own, 4 * n - 1, own.records());
+            self.ranked(&case(None), own, WORK_PER_POINT * n - 1, own.records());
+            self.ranked(&case(None), own, 4 * n, own.records());
             bad.iter().for_each(|tables| self.accepted_ranking(&case(None), tables));
         }
     }
 
-    // Two or three characters of the kinds for which 6 is given, in each order.
+    // Two or three characters of the kinds for which 6 is given, in each order, U+0130 beside a table without U+0307 among them.
     fn unclassed_of_both_kinds(&mut self, times: usize) {
         for _ in 0..times {
-            let world = aimed::World::new(&mut self.random);
+            let mut world = aimed::World::new(&mut self.random);
+            if self.random.below(2) == 0 {
+                world.classes.retain(|record| record.first != DOT_ABOVE);
+            }
             let tables = Tables::lent(&world.classes, &world.pairs, &world.languages);
             tables.lend();
             let mut text = world.text;
             for _ in 0..2 + self.random.below(2) {
                 let at = self.random.below(text.len() + 1);
-                text.insert(at, *self.random.pick(&aimed::STRAYS));
+                text.insert(at, if self.random.below(4) == 0 { DOTTED_I } else { *self.random.pick(&aimed::STRAYS) });
             }
+            self.accepted_ranking(&Case { text, threshold: None, small: 0, included: vec![] }, &tables);
+        }
+    }
+
+    // U+0130 (02 [4]): Turkish names; alone, so often that its letters, both counted, are at and beside `small`; as often as may be and once
+    // more, with a work area that is just long enough, one word short, and of 4 words a character.
+    fn capital_i(&mut self, times: usize, real: &Tables, lent: &Tables) {
+        for at in 0..times {
+            let n = texts::length(&mut self.random);
+            let mut text = texts::turkish(&mut self.random, n);
+            if at % 5 == 0 {
+                texts::shuffle(&mut self.random, &mut text);
+            }
+            let threshold = texts::threshold(&mut self.random);
+            let included = texts::included(&mut self.random, &real.numbers);
+            let tables = if at % 2 == 0 { real } else { lent };
+            tables.lend();
+            let small = if at % 2 == 0 { CRATES_SMALL } else { self.small(&text) };
+            let mut case = Case { text, threshold, small, included };
+            self.accepted_ranking(&case, tables);
+            if at % 4 == 0 {
+                self.at_a_score(&mut case, tables);
+            }
+        }
+        for n in [1, 2, 15, 16, 17, 18, LONGEST - 1, LONGEST, LONGEST + 1] {
+            let case = |small| Case { text: vec![DOTTED_I; n], threshold: None, small, included: vec![] };
+            real.lend();
+            self.accepted_ranking(&case(CRATES_SMALL), real);
+            self.ranked(&case(CRATES_SMALL), real, WORK_PER_POINT * n - 1, real.records());
+            self.ranked(&case(CRATES_SMALL), real, 4 * n, real.records());
+            lent.lend();
+            for small in [0, n - 1, n, 2 * n - 1, 2 * n, 2 * n + 1] {
+                self.accepted_ranking(&case(small as u32), lent);
+            }
+        }
+    }
+
+    // The same beside class tables that hold what is next to U+0307 and not itself, or nothing at all: 6 at the first U+0130.
+    fn capital_i_without_the_dot(&mut self, times: usize, records: &[tables::Record], pairs: &[u8], languages: &[Record]) {
+        for at in 0..times {
+            let without = records.iter().flat_map(|record| {
+                let (before, behind) = (record.last.min(DOT_ABOVE - 1), record.first.max(DOT_ABOVE + 1));
+                [tables::Record { last: before, ..*record }, tables::Record { first: behind, ..*record }]
+            });
+            let good = |record: &tables::Record| record.first <= record.last;
+            let classes: Vec<tables::Record> = if at % 3 == 0 { vec![] } else { without.filter(good).collect() };
+            let tables = Tables::lent(&classes, pairs, languages);
+            tables.lend();
+            let n = 1 + self.random.below(60);
+            let text = if at % 4 == 0 { vec![0x69; n] } else { texts::turkish(&mut self.random, n) };
             self.accepted_ranking(&Case { text, threshold: None, small: 0, included: vec![] }, &tables);
         }
     }
@@ -524,7 +589,7 @@ impl Run {
         for languages in all {
             let tables = Tables::new(classes, pairs, &languages);
             let question = case.question(&tables);
-            let (work, matches) = (vec![0; 4 * case.text.len()], vec![CoherenceMatch { language: 0, score: 0.0 }; 64]);
+            let (work, matches) = (vec![0; WORK_PER_POINT * case.text.len()], vec![CoherenceMatch { language: 0, score: 0.0 }; 64]);
             let should = causes::refusal(&question, work.len(), matches.len());
             let told = called(&question, &work, &matches).told;
             self.counted();
@@ -611,6 +676,8 @@ impl Run {
         self.during("causes of coherence", |run| run.causes_of_coherence(run.times(4, 80), classes, pairs, &own));
         self.during("edges of language tables", |run| run.language_edges(classes, pairs));
         self.during("characters without a class", |run| run.unclassed_of_both_kinds(run.times(100, 2_000)));
+        self.during("rankings with U+0130", |run| run.capital_i(run.times(120, 4_000), real, lent));
+        self.during("U+0130 without U+0307", |run| run.capital_i_without_the_dot(run.times(12, 200), &records, pairs, &own));
         self.during("rankings of the longest text", |run| run.longest_rankings(classes, pairs, real));
         self.during("rankings with the crate's tables", |run| {
             run.crates_tables(run.times(1_200, 24_000), real, letters, alphabet, alphabets)

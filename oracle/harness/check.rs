@@ -76,8 +76,8 @@ fn rules(c: char, rules: &mut Sentences) {
     rule("bits 25 to 31 are clear", class.flags >> 25 == 0);
     rule("range at most 511", class.range <= 511);
     rule(
-        "each letter has one lower-case letter; U+0130 has U+0069",
-        if c == '\u{130}' { class.lower == 0x69 } else { c.to_lowercase().count() == 1 },
+        "each letter has one lower-case letter; U+0130 has U+0069, and U+0307 behind it",
+        if c == '\u{130}' { class.lower == 0x69 && c.to_lowercase().eq(['\u{69}', '\u{307}']) } else { c.to_lowercase().count() == 1 },
     );
 }
 

@@ -60,9 +60,9 @@ HostRing drasumira_ring_open(const u8 *ring, usize n);
 HostRing drasumira_ring_put(u8 *ring, usize n, u32 head, u32 count, u64 line, u32 bits, u32 fed, u32 stopped, u32 refusal);
 HostRing drasumira_ring_flush(const u8 *ring, usize n, u32 head, u32 count, u32 most, u8 *out, usize room);
 
-enum { LONGEST = 65536, RANKED = 8192, RANKINGS = 64, RANKING_LONGEST = 63, MERGED = RANKINGS * RANKING_LONGEST, DEPTH = 1 << 21, SECOND_LONGEST = 4096, SLACK = 256 };
+enum { LONGEST = 65536, RANKED = 8192, WORK = 8, RANKINGS = 64, RANKING_LONGEST = 63, MERGED = RANKINGS * RANKING_LONGEST, DEPTH = 1 << 21, SECOND_LONGEST = 4096, SLACK = 256 };
 
-static u32 spaced[SECOND_LONGEST], text[LONGEST], out[LONGEST], work[4 * RANKED], each[RANKINGS];
+static u32 spaced[SECOND_LONGEST], text[LONGEST], out[LONGEST], work[WORK * RANKED], each[RANKINGS];
 static u8 bytes[LONGEST], back[LONGEST], pairs[32768], language[1032], ring[LONGEST], flushed[LONGEST];
 static u16 page[128];
 static CoherenceMatch matches[1], list[MERGED], merged[MERGED];
@@ -72,7 +72,7 @@ static usize n;
 static u32 number; /* of the last answer */
 
 #define LENT 0, 0, pairs, sizeof pairs
-#define RANKING LENT, language, sizeof language, 0, 0, work, 4 * n, matches, 1
+#define RANKING LENT, language, sizeof language, 0, 0, work, WORK * n, matches, 1
 static void check_classes(void) { number = drasumira_check_classes(0, 0).number; }
 static void read_bytes(void) { number = drasumira_read(bytes, n, out, n).number; }
 static void read_page(void) { number = drasumira_read_page(page, 128, bytes, n, out, n).number; }

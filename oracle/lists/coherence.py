@@ -1,11 +1,11 @@
 #!/usr/bin/env python3
 # coherence.py ORACLE > crates/replay_coherence/stdin: rankings of languages. What is accepted is answered by the oracle (`oracle serve`, made
 # from the crate at 1bcded52e1); what is refused, which the oracle never does, by a second writing of 01's causes in this script.
-# Three kinds of tables: the crate's own, answered from the crate's own data and with its small of 32 (no text has U+0130, which the crate lowers to
-# two letters; of the class table only the records that a text needs stand in the list); the same lent to the oracle, with other small and U+0130;
-# and drawn ones, with numbers in several records, marks, letters repeated, ranges up to 511, lower-case letters of another range. Texts in
-# thirteen scripts, mixed, and drawn by a record's popularity; thresholds at a score and the floats beside it; included numbers: none,
-# the lone 0, one, several, repeated, 64; every cause of refusal and every two of them.
+# Three kinds of tables: the crate's own, answered from the crate's own data and with its small of 32 (of the class table only the records that a
+# text needs stand in the list); the same lent to the oracle, with other small and more U+0130; and drawn ones, with numbers in several records,
+# marks, letters repeated, ranges up to 511, lower-case letters of another range. Texts in fourteen languages, mixed, and drawn by a record's
+# popularity; U+0130 in Turkish words, alone, and as often as may be; thresholds at a score and the floats beside it; included numbers: none,
+# the lone 0, one, several, repeated, 64; every cause of refusal and every two of them, U+0130 beside a table without U+0307 among them.
 #
 # A block has tables and the questions asked of them; before each block its size in bytes. In little-endian u32 words:
 #   bytes of the class table, of the language table and of the pair table; the byte that fills the pair table, and how many of its bits are
@@ -32,7 +32,7 @@ LANGUAGE_RECORD = 1032
 MOST_LANGUAGES = 63
 MOST_LETTERS = 256
 MOST_INCLUDED = 64
-WORK = 4  # words of the work area for a character
+WORK = 8  # words of the work area for a character (02 [4])
 CRATES_SMALL = 32
 DEFAULT = 0x3DCCCCCD  # f32 0.1
 SUFFICIENT = 0x3F4CCCCD  # f32 0.8
@@ -41,6 +41,7 @@ CHAR_ALPHABETIC = 1 << 24
 ACCENTUATED = 1 << 14
 BUILTIN_END = 0x250
 DOTTED_I = 0x130
+DOT_ABOVE = 0x307
 
 SAMPLES = [
     "The signal at the north junction shows stop and the train waits for the line to clear before it moves on again. ",
@@ -55,6 +56,7 @@ SAMPLES = [
     "الإشارة الشمالية مغلقة والقطار ينتظر على الرصيف حتى الصباح من أجل الحركة في المحطة. ",
     "האות הצפוני סגור והרכבת ממתינה ברציף עד הבוקר כדי לנוע אל התחנה הבאה. ",
     "สัญญาณด้านเหนือปิดอยู่และรถไฟกำลังรออยู่ที่ชานชาลาจนถึงเช้า ",
+    "İstanbul'dan İzmir'e giden tren İNİŞ İŞARETİ bekliyor; Iğdır, Diyarbakır ve İskenderun'da çiçekler açtı, şöför uyuyor. ",
     "उत्तरी सिग्नल बंद है और गाड़ी सुबह तक प्लेटफार्म पर प्रतीक्षा कर रही है। ",
 ]
 
@@ -225,7 +227,8 @@ def unclassed(text, classes, builtin):
         if found is None:
             return i
         flags, number, lower = found
-        if flags & CHAR_ALPHABETIC and number and lower and class_of(lower) is None:
+        taken = flags & CHAR_ALPHABETIC and number
+        if taken and any(class_of(x) is None for x in [lower or c] + [DOT_ABOVE] * (c == DOTTED_I)):
             return i
     return None
 
@@ -311,7 +314,7 @@ def crates_texts(draw, letters):
 def crates_block(draw, oracle, texts, pairs):
     """The records that the texts need, their pairs of ranges, and every language."""
     oracle.tell("reset")
-    points = sorted({c for text in texts for c in text} | {DOTTED_I})
+    points = sorted({c for text in texts for c in text} | {DOTTED_I, DOT_ABOVE})
     said = {c: oracle.ask("class %X" % c) for c in points}
     points = sorted(set(points) | {int(k[3], 16) for k in said.values()} - {0})
     with open(os.path.join(TABLES, "classes.bin"), "rb") as f:
@@ -329,7 +332,9 @@ def crates_own(draw, oracle, pairs):
         records = language_records(f.read())
     letters = [list(r[3][: r[1]]) for r in records]
     numbers = [r[0] for r in records]
-    texts = [t for t in crates_texts(draw, letters) if DOTTED_I not in t]
+    texts = list(crates_texts(draw, letters))
+    turkish = [t for t in texts if DOTTED_I in t]
+    texts += [[DOTTED_I] * n for n in (1, 16, 17, 40)] + [[DOTTED_I, 0x20] * 20 + t for t in turkish[:4]]
     block = crates_block(draw, oracle, texts, pairs)
     for text in texts:
         ask(draw, oracle, block, CRATES_SMALL, included_of(draw, numbers), text)
@@ -457,7 +462,10 @@ def refused(oracle):
         ],
         9: [dict(included=i) for i in ([6], [5, 0], [0, 0], [0, 5], [5] * 64 + [5], [0] * 65, [5] * 63 + [6])],
         3: [dict(work=-1), dict(room=-1), dict(work=-64, room=-1)],
-        6: [dict(text=t) for t in ([0x61, 0xD800], [0x110000], [0x62] * 40 + [0xFFFFFFFF], [0x61, 0x410, 0xDFFF], [0x3B9], [0x61, 0x181])],
+        6: [
+            dict(text=t)
+            for t in ([0x61, 0xD800], [0x110000], [0x62] * 40 + [0xFFFFFFFF], [0x61, 0x410, 0xDFFF], [0x3B9], [0x61, 0x181], [0x61, 0x69, DOTTED_I], [DOTTED_I])
+        ],
     }
     blocks = {}
 
@@ -481,6 +489,8 @@ def refused(oracle):
                     put(**change, **kinds[other][i % len(kinds[other])])
     put(text=[0x61, 0xD800] * (LONGEST_TEXT // 2 + 1))  # 1 and 6
     put(languages=one * (MOST_LANGUAGES + 1))
+    put(classes=b"", text=[DOTTED_I] * 3)
+    put(classes=class_record(DOT_ABOVE - 1, DOT_ABOVE - 1, 0, 0) + class_record(DOT_ABOVE + 1, DOT_ABOVE + 1, 0, 0), text=[0x61, DOTTED_I, 0xD800])
     return list(blocks.values())
 
 
@@ -499,6 +509,27 @@ def longest(oracle):
     return block
 
 
+def longest_dotted(oracle):
+    """U+0130 as often as may be, alone and by turns; U+0307 in a range of its own or none, accentuated or not. `small` at the letters, both counted."""
+    marks = {0: [0x69, DOT_ABOVE], 1: [DOT_ABOVE, 0x69, 0x61], 2: [0x69], 3: [0x61, 0x69, DOT_ABOVE]}
+    languages = b"".join(language_record(n + 1, n, letters) for n, letters in marks.items())
+    blocks = []
+    for flags, number in (0, 0), (ACCENTUATED, 0), (CHAR_ALPHABETIC, 9), (CHAR_ALPHABETIC | ACCENTUATED, 4):
+        block = Block(class_record(DOT_ABOVE, DOT_ABOVE, flags, number), languages, Pairs(0, []))
+        oracle.tell("reset")
+        oracle.lend("classes", block.classes)
+        oracle.lend("pairs", block.pairs.table())
+        oracle.lend("languages", block.languages)
+        for n in 1, 2, 5, LONGEST_TEXT:
+            for text in [DOTTED_I] * n, ([DOTTED_I, 0x61, DOT_ABOVE, 0x49] * n)[:n]:
+                letters = sum(len(layer.split(",")) for layer in oracle.ask("layers " + listed("%X", text)))
+                for small in 0, letters - 1, letters, n:
+                    oracle.tell("small %d" % small)
+                    block.put(DEFAULT, small, [], text, (0, 0, oracle.ranking(DEFAULT, [], text)))
+        blocks.append(block)
+    return blocks
+
+
 def main():
     draw = random.Random(SEED)
     with open(os.path.join(TABLES, "pairs.bin"), "rb") as f:
@@ -509,6 +540,7 @@ def main():
         blocks += [drawn(draw, oracle) for _ in range(40)]
         blocks += refused(oracle)
         blocks.append(longest(oracle))
+        blocks += longest_dotted(oracle)
     out = sys.stdout.buffer
     for block in blocks:
         whole = block.bytes()

@@ -21,7 +21,7 @@ import sys
 from fractions import Fraction
 
 SEED = 10
-LONGEST_RANKED = 8192
+MOST_LETTERS = 8193  # distinct letters of a layer
 LANGUAGE_LETTERS = 256
 LANGUAGE_RECORD = 1032
 WORKED = [("MARTHA", "MARHTA", 6, 1, "0.944"), ("DWAYNE", "DUANE", 4, 0, "0.822"), ("DIXON", "DICKSONX", 4, 0, "0.767")]
@@ -129,7 +129,7 @@ def pairs(draw):
             for _ in range(draw.randint(0, 10)):
                 a.insert(draw.randint(0, len(a)), scalar(draw, 0x400))
             yield a, letters
-    for a, b, strangers in ((LONGEST_RANKED, LANGUAGE_LETTERS, 0), (LONGEST_RANKED, LANGUAGE_LETTERS, 128), (3000, 100, 40), (600, 256, 100)):
+    for a, b, strangers in ((MOST_LETTERS, LANGUAGE_LETTERS, 0), (MOST_LETTERS, LANGUAGE_LETTERS, 128), (3000, 100, 40), (600, 256, 100)):
         layer = draw.sample(range(0x4E00, 0x4E00 + 2 * a), a)
         yield layer, disordered(draw, layer[: b - strangers], 40) + [0x41 + k for k in range(strangers)]
 
@@ -152,7 +152,7 @@ def numbers(draw):
     for _ in range(1500):
         yield float64(draw.randint(bits64(0.125), bits64(1.0)))
     for _ in range(1500):
-        a, b = draw.randint(1, draw.choice([30, 300, LONGEST_RANKED])), draw.randint(1, LANGUAGE_LETTERS)
+        a, b = draw.randint(1, draw.choice([30, 300, MOST_LETTERS])), draw.randint(1, LANGUAGE_LETTERS)
         m = draw.randint(1, min(a, b))
         yield value(m, draw.randint(0, m // 2), a, b)
 
@@ -173,7 +173,7 @@ def main():
     asked = list(pairs(draw))
     cases = []
     for (a, b), said in zip(asked, answers(sys.argv[1], asked)):
-        assert len(a) <= LONGEST_RANKED and len(b) <= LANGUAGE_LETTERS
+        assert len(a) <= MOST_LETTERS and len(b) <= LANGUAGE_LETTERS
         m, t, x = measure(a, b)
         assert bits32(x) == said, (a, b)
         cases.append([1, len(a), len(b), m, t] + split(bits64(x)) + [said] + a + b)

@@ -5,13 +5,13 @@
 # is lent the classes of the letters in the text and a pair table, both drawn here: any range from 0 to 511, a character now and then not
 # alphabetic to `char::is_alphabetic`, lower-case letters that are the letter itself or another, also one of another range; pair tables
 # that are sparse, dense, not symmetric, and with ranges suspicious to themselves. Other texts are of the crate's own characters, with the
-# crate's classes and tables/pairs.bin; U+0130 is left out, which the crate lowers to two letters. The oracle hands out no ranking: the one
-# here is worked out from its layers, as 01 words it.
+# crate's classes and tables/pairs.bin, U+0130 among them, which has two slots for its two lower-case letters. The oracle hands out no ranking:
+# the one here is worked out from its layers, as 01 words it.
 #
 # Little-endian u32 words, before each case its size in bytes:
-#   the number n of characters, of pairs, of layers, and the byte that fills the pair table; the pairs whose bits are flipped, as 512a + b;
-#   n ranges, 0 for a character that is not taken; n lowered letters; for each layer its length, its letters in text order, how many
-#   different ones, and these by popularity
+#   the number n of slots, of pairs, of layers, and the byte that fills the pair table; the pairs whose bits are flipped, as 512a + b; n ranges,
+#   0 for a character that is not taken; n lowered letters; for each layer its length, its letters in text order, how many different ones, and
+#   these by popularity
 import os
 import random
 import struct
@@ -28,6 +28,7 @@ MOST_PAIRS = 1024
 LAST_WORD = 8192
 CHAR_ALPHABETIC = 1 << 24
 DOTTED_I = 0x130
+DOT_ABOVE = 0x307
 # code points for drawn classes: no surrogate among them
 POOL = list(range(0x61, 0x7B)) + list(range(0xE0, 0x100)) + list(range(0x3B1, 0x3C9)) + list(range(0x4E00, 0x4F00)) + [0x10FFFF, 0x1F600, 0xFFFD, 0]
 # blocks of the crate's own characters
@@ -64,24 +65,26 @@ def bit(pairs, a, b):
 
 def case(classes, pairs, fill, flipped, text, layers):
     """classes: code point -> (flags, range, lower). The fill and the flipped bits are checked against the table of the used ranges."""
-    ranges = [classes[c][1] if classes[c][0] & CHAR_ALPHABETIC else 0 for c in text]
-    letters = [classes[c][2] or c for c in text]
+    # one slot for each letter: U+0130 is two
+    slots = [(c, lower) for c in text for lower in [classes[c][2] or c] + [DOT_ABOVE] * (c == DOTTED_I)]
+    ranges = [classes[c][1] if classes[c][0] & CHAR_ALPHABETIC else 0 for c, _ in slots]
+    letters = [lower for _, lower in slots]
     table = bytearray([fill]) * PAIR_BYTES
     for k in flipped:
         table[k // 8] ^= 1 << k % 8
     used = sorted(set(ranges) - {0})
     assert all(bit(table, a, b) == bit(pairs, a, b) for a in used for b in used)
-    words = [len(text), len(flipped), len(layers), fill] + flipped + ranges + letters
+    words = [len(slots), len(flipped), len(layers), fill] + flipped + ranges + letters
     for layer in layers:
         order = popular(layer)
         words += [len(layer)] + layer + [len(order)] + order
-    assert len(text) <= LONGEST and len(flipped) <= MOST_PAIRS and len(words) <= LAST_WORD, (len(text), len(flipped), len(words))
+    assert len(slots) <= LONGEST and len(flipped) <= MOST_PAIRS and len(words) <= LAST_WORD, (len(slots), len(flipped), len(words))
     return struct.pack("<%dI" % len(words), *words)
 
 
-def drawn(oracle, draw, folder, length, letters, ranges, density):
-    """A text of drawn classes: so many letters, these ranges, and a share of suspicious pairs."""
-    pool = draw.sample(POOL, letters)
+def drawn(oracle, draw, folder, length, letters, ranges, density, dotted=False):
+    """A text of drawn classes: so many letters, these ranges, and a share of suspicious pairs; with U+0130 in any range, or none."""
+    pool = draw.sample(POOL, letters) + [DOTTED_I] * dotted
     oracle.tell("reset")
     classes = {}
     for c in pool:
@@ -107,15 +110,14 @@ def drawn(oracle, draw, folder, length, letters, ranges, density):
 
 
 def own(oracle, draw, pairs, length, blocks):
-    """A text of the crate's own characters."""
+    """A text of the crate's own characters, of so many slots at most."""
     oracle.tell("reset")
     text = []
     while len(text) < length:
         first, last = draw.choice(blocks)
-        c = draw.randint(first, last)
-        if c != DOTTED_I:
-            text += [c] * draw.choice([1, 1, 1, 2, 3])
-    text = text[:length]
+        text += [draw.randint(first, last)] * draw.choice([1, 1, 1, 2, 3])
+    while len(text) + text.count(DOTTED_I) > length:
+        text.pop()
     classes = {}
     for c in set(text):
         flags, number, _, lower = oracle.ask("class %X" % c).split()
@@ -151,6 +153,14 @@ def main():
         for _ in range(150):
             cases.append(own(oracle, draw, crate_pairs, draw.randint(1, 120), draw.sample(BLOCKS, draw.randint(1, 4))))
         cases.append(own(oracle, draw, crate_pairs, LONGEST, BLOCKS))
+        # U+0130: in ranges that are suspicious to themselves, too; among Turkish letters; alone, as often as there are slots for it
+        for _ in range(40):
+            ranges = [0] + draw.sample(range(1, RANGES), draw.randint(1, 4))
+            cases.append(drawn(oracle, draw, folder, draw.randint(1, 60), draw.randint(1, 5), ranges, draw.choice([0.0, 0.5, 1.0]), dotted=True))
+        for _ in range(20):
+            cases.append(own(oracle, draw, crate_pairs, draw.randint(1, 120), [(DOTTED_I, DOTTED_I + 1)] + draw.sample(BLOCKS, draw.randint(1, 2))))
+        for length in [2, 3, LONGEST]:
+            cases.append(own(oracle, draw, crate_pairs, length, [(DOTTED_I, DOTTED_I)]))
     out = sys.stdout.buffer
     for c in cases:
         out.write(struct.pack("<I", len(c)) + c)

@@ -6,7 +6,7 @@ use crate::{Refusal, Tables, Text, unless_refused};
 pub const TOO_SMALL_SEQUENCE: u32 = 32;
 
 const RECORD: usize = 1_032;
-const WORK_PER_POINT: usize = 4;
+const WORK_PER_POINT: usize = 8;
 const LONGEST_RANKED: usize = 8_192;
 const MOST_RANKINGS: usize = 64;
 const LONGEST_RANKING: usize = 63;
@@ -93,12 +93,26 @@ pub fn language_name(number: u32) -> Option<&'static str> {
 /// # Ok::<(), drasumira::Refusal>(())
 /// ```
 ///
-/// A text that is refused for its length costs no memory: the work area, 16 bytes a code point, is made for at most 8,192 of them.
+/// `\u{130}` lowers to two letters, as [`char::to_lowercase`] has it, and both count:
+///
+/// ```
+/// use drasumira::{Languages, Refusal, TOO_SMALL_SEQUENCE, Tables, coherence, language_name};
+/// let (tables, languages) = (Tables::full(), Languages::full());
+/// let names = "İstanbul, İzmir, Diyarbakır, Iğdır, Eskişehir, İskenderun, Kırklareli";
+/// let found = coherence(names, None, TOO_SMALL_SEQUENCE, &tables, &languages, &[])?;
+/// assert!(found.iter().any(|m| language_name(m.language) == Some("Turkish")));
+/// let refused = coherence("İzmir", None, 0, &Tables::builtin_only(), &languages, &[]).unwrap_err();
+/// assert_eq!(refused, Refusal::new(Refusal::UNCLASSED, 0)); // U+0307 has no class there
+/// # Ok::<(), drasumira::Refusal>(())
+/// ```
+///
+/// A text that is refused for its length costs no memory: the work area, 32 bytes a code point, is made for at most 8,192 of them.
 ///
 /// # Errors
 ///
 /// Bytes as [`read`](crate::read) refuses them, before all else. Then [`Refusal::TOO_LONG`] over 8,192 code points, [`Refusal::NOT_FINITE`],
-/// [`Refusal::BAD_INCLUDED`], and [`Refusal::UNCLASSED`] for a character, or the lower case of a letter, that is in no record.
+/// [`Refusal::BAD_INCLUDED`], and [`Refusal::UNCLASSED`] for a character, or the lower case of a letter, that is in no record: U+0130 lowers to two
+/// letters, U+0069 and U+0307, of which the second is in no built-in table.
 pub fn coherence<'a>(
     text: impl Into<Text<'a>>,
     threshold: Option<f32>,

@@ -79,6 +79,24 @@ fn refusals_in_their_order() {
 }
 
 #[test]
+fn capital_i_with_dot() {
+    let (tables, both) = (Tables::full(), Languages::new(record(7, 1, "i\u{307}")).unwrap());
+    let of = |n: usize, small: u32| coherence("\u{130}".repeat(n).as_str(), None, small, &tables, &both, &[7]).unwrap();
+    // two letters each: 34 of them are more than 32, and 32 are not
+    assert_eq!(bits(&of(17, TOO_SMALL_SEQUENCE)), [(7, 1f32.to_bits())]);
+    assert!(of(16, TOO_SMALL_SEQUENCE).is_empty());
+    assert_eq!(of(8_192, 16_383).len(), 1);
+    assert!(of(8_192, 16_384).is_empty());
+    // equal counts stand by code point, U+0069 first: the other way round neither letter stands in its place
+    let turned = Languages::new(record(7, 1, "\u{307}i")).unwrap();
+    assert!(coherence("\u{130}".repeat(17).as_str(), None, 0, &tables, &turned, &[7]).unwrap().is_empty());
+    // U+0307 is past the built-in table; scoring does not lower
+    let few = Tables::builtin_only();
+    assert_eq!(coherence("Di\u{130}", None, 0, &few, &both, &[]), Err(refusal(6, 2)));
+    assert!(drasumira::score("Di\u{130}", None, &few).is_ok());
+}
+
+#[test]
 fn language_tables() {
     let mut two = record(9, 0, "et");
     two.extend(record(0, 0, "a"));

@@ -70,9 +70,9 @@ MOST-MARKS = 3
 abbrev pub MOST-INCLUDED : ℕ
 MOST-INCLUDED = 64
 
--- u32 of the work area for each code point that is ranked
+-- u32 of the work area for each code point that is ranked (02 [4])
 abbrev pub WORK-PER-POINT : ℕ
-WORK-PER-POINT = 4
+WORK-PER-POINT = 8
 
 -- U+000A, which is fed after every text
 abbrev pub NEWLINE : ℕ

@@ -9,11 +9,11 @@ pub const LONGEST_TEXT: usize = 65536;
 // code points of a text that is ranked (01, refusal 1 in coherence)
 pub const LONGEST_RANKED: usize = 8192;
 
-// letters of a layer: one for each code point
-pub const LONGEST_LAYER: usize = 8192;
+// letters of a layer: one for each code point, and two for U+0130 (02 [4])
+pub const LONGEST_LAYER: usize = 16384;
 
-// distinct letters of a layer
-pub const MOST_LETTERS: usize = 8192;
+// distinct letters of a layer: one for each code point, and U+0307
+pub const MOST_LETTERS: usize = 8193;
 
 // the built-in table classes the code points below this; a lent record starts at it or past it
 pub const BUILTIN_END: u32 = 0x250;
@@ -60,8 +60,8 @@ pub const MOST_MARKS: u32 = 3;
 // included language numbers
 pub const MOST_INCLUDED: usize = 64;
 
-// u32 of the work area for each code point that is ranked
-pub const WORK_PER_POINT: usize = 4;
+// u32 of the work area for each code point that is ranked (02 [4])
+pub const WORK_PER_POINT: usize = 8;
 
 // U+000A, which is fed after every text
 pub const NEWLINE: u32 = 10;

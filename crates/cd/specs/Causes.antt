@@ -22,11 +22,13 @@ use Rattle.cd_taken.specs.Unclassed.{firstUnclassed}
 unfoldable pub tooLong : List ℕ → Cause
 tooLong text = given (ltb LONGEST-RANKED (length text)) TOO-LONG 0
 
--- 3: "lent output or work area too short": room for fewer matches than there are language records, or fewer words of work than 4 a code point
+-- 3: "lent output or work area too short": room for fewer matches than there are language records, or fewer words of work than 8 a
+-- code point (02 [4])
 unfoldable pub noRoom : (text t : List ℕ) (work room : ℕ) → Cause
 noRoom text t work room = given (ltb room (languages t) || ltb work (WORK-PER-POINT * length text)) NO-ROOM 0
 
--- 6: "code point in no record", "also .. for a taken character whose lower case has no class, at the first index of either kind"
+-- 6: "code point in no record", "also .. for a taken character whose lower case has no class, at the first index of either kind"; "and 6 at the index
+-- of U+0130 if U+0307 has no class" (02 [4])
 unfoldable pub noClass : (classes text : List ℕ) → Cause
 noClass classes text = given (ltb (firstUnclassed classes text) (length text)) UNCLASSED (firstUnclassed classes text)
 

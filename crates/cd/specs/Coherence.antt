@@ -38,7 +38,7 @@ unfoldable pub coherenceRatioDefault : (text : List ℕ) (small : ℕ) (classes 
 coherenceRatioDefault text small classes pairs languages included work room =
     answered (causesDefault text classes pairs languages included work room) (matchesOf text DEFAULT-THRESHOLD small classes pairs languages included)
 
--- "A work area of 4 u32 per code point is lent; after acceptance those are zero and any beyond them stay"
+-- "A work area .. is lent; after acceptance those are zero and any beyond them stay" (01); it "becomes 8 u32 per code point" (02 [4])
 unfoldable pub cleared : List ℕ → List ℕ → List ℕ
 cleared text work = put work 0 (replicate (WORK-PER-POINT * length text) 0)
 

@@ -32,7 +32,7 @@ fn rank_text(
     ensures { λ r. ⌜ (r ≡ byValue (spec.matchesOf (now (text .entry)) threshold small (now (classes .entry)) (now (pairs .entry)) (now (languages .entry)) (now (included .entry)))) × (now (work .exit) ≡ spec.cleared (now (text .entry)) (now (work .entry))) ⌝ }
 {
     let slots = cd_taken::slots(text);
-    cd_taken::fill_area(text, classes, work);
+    cd_taken::fill_area(text, slots, classes, work);
     let count = cd_layers::alpha_unicode_split(work, slots, pairs);
     let standing = read_layers(
         work,

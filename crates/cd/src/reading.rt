@@ -6,6 +6,7 @@ ghost use Rattle.base.specs.Limits.{LAST-RANGE};
 ghost use Rattle.base.specs.Inner.Limits.{MOST-LETTERS};
 ghost use Rattle.cd_work.specs.Inner.Parts.{Room, Kept};
 ghost use Rattle.cd_letters.specs.Inner.LayerLetters.{layerLetters};
+ghost use Rattle.cd_taken.specs.Inner.Area.{FewUndotted};
 ghost use Rattle.cd_best.specs.Inner.Standing as standings;
 ghost use Rattle.cd.specs.Inner.After.{layerAfter, orderAfter};
 ghost use Rattle.cd.specs.Inner.Comparable.{Comparable};
@@ -41,7 +42,7 @@ fn read_layer(
     languages: &[u8],
     included: &[u32],
 ) -> Standing
-    requires { ⌜ Comparable (now classes) (now languages) (now included) × Room slots (now work) × (s .sufficient ≤ standings.MOST-BEFORE) ⌝ }
+    requires { ⌜ Comparable (now classes) (now languages) (now included) × Room slots (now work) × FewUndotted slots (now work) × (s .sufficient ≤ standings.MOST-BEFORE) ⌝ }
     ensures { λ r. ⌜ (r ≡ layerAfter threshold small (now (classes .entry)) (now (languages .entry)) (now (included .entry)) s (layerLetters slots k (now (work .entry)))) × Kept slots (now (work .entry)) (now (work .exit)) ⌝ }
 {
     if cd_letters::size(&work[..slots], k) <= small as usize {
@@ -71,7 +72,7 @@ pub fn read_layers(
     languages: &[u8],
     included: &[u32],
 ) -> Standing
-    requires { ⌜ Comparable (now classes) (now languages) (now included) × Room slots (now work) × (count ≤ LAST-RANGE) ⌝ }
+    requires { ⌜ Comparable (now classes) (now languages) (now included) × Room slots (now work) × FewUndotted slots (now work) × (count ≤ LAST-RANGE) ⌝ }
     ensures { λ r. ⌜ (r ≡ readFrom threshold small (now (classes .entry)) (now (languages .entry)) (now (included .entry)) slots (now (work .entry)) 0 count standings.start) × Kept slots (now (work .entry)) (now (work .exit)) ⌝ }
 {
     let mut s = cd_best::start();

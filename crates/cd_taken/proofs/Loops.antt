@@ -1,1 +1,2 @@
 pub mod Accents
+pub mod Filling

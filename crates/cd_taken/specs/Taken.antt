@@ -1,5 +1,6 @@
 -- "Bit-24 characters with a nonzero range are taken, lowered, in text order" (01, Layers and rankings; cd.rs: alpha_unicode_split). The range is
 -- the character's own, "before lowering".
+-- "Both enter its layer" of U+0130's two (02 [4]).
 -- Not here: which layer a taken character joins (crate layers); what is said of a character that has no class, which is refused (Unclassed).
 -- Assumes nothing.
 use Prim.Native.Nat.{ℕ}
@@ -16,9 +17,17 @@ use Rattle.cd_layers.specs.Layers.{Taken}
 unfoldable pub isTaken : Class → Bool
 isTaken c = has (c .flags) CHAR-ALPHABETIC && not (eqb (c .range) 0)
 
--- what a character lowers to: "Each letter has one lower-case letter"
-abbrev pub lowered : Class → List ℕ
-lowered c = c .lower ∷ []
+-- U+0130, and the combining dot above
+abbrev pub CAPITAL-I-WITH-DOT : ℕ
+CAPITAL-I-WITH-DOT = 0x130
+
+abbrev pub DOT-ABOVE : ℕ
+DOT-ABOVE = 0x307
+
+-- what a character lowers to: "Each letter has one lower-case letter" (01), its class's; but "two for U+0130, U+0069 and U+0307" (02 [4]), in that
+-- order. U+0069 is what the built-in table has for U+0130; U+0307 stands in no table's entry for it, but here.
+unfoldable pub lowered : Class → List ℕ
+lowered c = c .lower ∷ cond (eqb (c .point) CAPITAL-I-WITH-DOT) (DOT-ABOVE ∷ []) []
 
 -- what one character gives
 unfoldable pub takenLetters : Found → List Taken

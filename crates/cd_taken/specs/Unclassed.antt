@@ -1,5 +1,6 @@
 -- Refusal 6 in coherence: "code point in no record", and "In coherence 6 is also given for a taken character whose lower case has no class, at the
--- first index of either kind" (01, Refusal numbers). The lower case of a character that is not taken is never asked for.
+-- first index of either kind" (01, Refusal numbers); "and 6 at the index of U+0130 if U+0307 has no class" (02 [4]), which is one of the letters that
+-- it lowers to. The lower case of a character that is not taken is never asked for.
 -- Assumes nothing.
 use Prim.Native.Nat.{ℕ}
 use mathlib.Core.Bool.{Bool, true, false, _&&_, _||_}

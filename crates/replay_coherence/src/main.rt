@@ -65,7 +65,7 @@ const INCLUDED_ROOM: usize = 80;
 
 const TEXT_ROOM: usize = 8200;
 
-const WORK_ROOM: usize = 32800;
+const WORK_ROOM: usize = 65600;
 
 const PAIR_ROOM: usize = 32800;
 

@@ -1,5 +1,6 @@
 // Small tables and a text of their letters, at each limit of 01's layers and rankings: few ranges, of which any may be suspicious to any; letters
 // whose counts are chosen, so that their order is; records that are near to that order, share just about a fifth of it, or have repeated letters.
+use super::causes::{DOT_ABOVE, DOTTED_I};
 use super::languages::Record;
 use super::texts::shuffle;
 use crate::random::Random;
@@ -12,6 +13,7 @@ const BLOCKS: u32 = 4;
 const PLAIN: u32 = 36; // letters of a block, and behind them accented ones
 const ACCENTED: u32 = 3;
 const UNKNOWN: u32 = 0x2000; // letters of a language that no text has, in no record
+const I_RANGE: u16 = 4; // the range of U+0130
 
 // Of the first block: a letter whose lower case has no class, one that is not taken; then characters in no record.
 pub const STRAYS: [u32; 4] = [0x3400 + 46, 0x3400 + 47, 0x3400 + 50, 0x3FFF];
@@ -27,9 +29,15 @@ fn block(k: u32) -> u32 {
     0x3400 + 64 * k
 }
 
-// Of each block: letters, accented letters, and characters that are lowered to one of them, to another block's, or are not taken.
-fn classes(ranges: &[u16]) -> Vec<tables::Record> {
+// Of each block: letters, accented letters, and characters that are lowered to one of them, to another block's, or are not taken. Before them
+// U+0307, of any kind, or now and then not at all.
+fn classes(r: &mut Random, ranges: &[u16]) -> Vec<tables::Record> {
     let mut all = vec![];
+    if r.below(12) > 0 {
+        let flags = *r.pick(&[0, ACCENTUATED, CHAR_ALPHABETIC, CHAR_ALPHABETIC | ALPHABETIC | ACCENTUATED]);
+        let range = *r.pick(&[0, I_RANGE, ranges[0]]);
+        all.push(tables::Record { first: DOT_ABOVE, last: DOT_ABOVE, flags, range, zero: 0, base: 0, lower: 0 });
+    }
     for k in 0..BLOCKS {
         let (at, range) = (block(k), ranges[k as usize]);
         let next = block((k + 1) % BLOCKS);
@@ -159,13 +167,19 @@ impl World {
         text.iter_mut().for_each(|letter| *letter = if mixed == 1 { written(r, *letter) } else { *letter });
         for _ in 0..r.below(6) {
             let k = r.below(BLOCKS as usize) as u32;
-            let other = *r.pick(&[0x20, 0x31, 0x61, 0x61, 0xE9, 0x130, block(k) + 44, block(k) + 45, block(k) + 48]);
+            let other = *r.pick(&[0x20, 0x31, 0x61, 0x61, 0xE9, DOTTED_I, block(k) + 44, block(k) + 45, block(k) + 48]);
             let at = r.below(text.len() + 1);
             text.insert(at, other);
         }
         if r.below(60) == 0 {
             let at = r.below(text.len() + 1);
             text.insert(at, *r.pick(&STRAYS));
+        }
+        // U+0130 a few times more, and its letters in the records
+        let dots = if r.below(3) == 0 { 1 + r.below(9) } else { 0 };
+        for _ in 0..dots {
+            let at = r.below(text.len() + 1);
+            text.insert(at, DOTTED_I);
         }
         let unlike = r.below(2) == 0;
         let mut languages = vec![];
@@ -175,9 +189,15 @@ impl World {
                 order.extend(r.pick(&orders));
             }
             let number = if unlike { 90 - 7 * i } else { 1 + r.below(4) as u32 };
-            languages.push(Record { number, marks: [3, 3, r.below(4)][r.below(3)] as u16, letters: record(r, &order) });
+            let mut letters = record(r, &order);
+            for letter in if dots > 0 { &[0x69, DOT_ABOVE][..r.below(3)] } else { &[] } {
+                let at = r.below(letters.len() + 1);
+                letters.insert(at, *letter);
+            }
+            languages.push(Record { number, marks: [3, 3, r.below(4)][r.below(3)] as u16, letters });
         }
-        World { classes: classes(&ranges), pairs: pairs(r, &ranges), languages, text }
+        let all = [&ranges[..], &[I_RANGE]].concat();
+        World { classes: classes(r, &ranges), pairs: pairs(r, &all), languages, text }
     }
 }
 

@@ -1,4 +1,4 @@
-// 01's causes of refusal in coherence, written a second time from 01 alone. It shares nothing with the library.
+// 01's and 02 [4]'s causes of refusal in coherence, written a second time from those papers alone. It shares nothing with the library.
 use super::host::Question;
 use crate::causes::{Refusal, classes_fault};
 use crate::tables::{BUILTIN_END, PAIR_BYTES, Record, records};
@@ -9,8 +9,10 @@ const LANGUAGE_BYTES: usize = 1_032;
 const MOST_LANGUAGES: usize = 63;
 const MOST_LETTERS: usize = 256;
 const MOST_INCLUDED: usize = 64;
-const WORK_PER_POINT: usize = 4;
+pub const WORK_PER_POINT: usize = 8; // 02 [4]
 const CHAR_ALPHABETIC: u32 = 1 << 24;
+pub const DOTTED_I: u32 = 0x130;
+pub const DOT_ABOVE: u32 = 0x307;
 
 fn word(record: &[u8], at: usize) -> u32 {
     u32::from_le_bytes([record[at], record[at + 1], record[at + 2], record[at + 3]])
@@ -57,13 +59,14 @@ fn class(point: u32, all: &[Record]) -> Option<(u32, u16, u32)> {
     all.iter().find(|r| r.first <= point && point <= r.last).map(|r| (r.flags, r.range, r.lower))
 }
 
-// 6: a code point in no record, or "a taken character whose lower case has no class, at the first index of either kind"
+// 6: a code point in no record, or "a taken character whose lower case has no class, at the first index of either kind"; "and 6 at the index
+// of U+0130 if U+0307 has no class" (02 [4])
 fn unclassed(text: &[u32], all: &[Record]) -> Option<Refusal> {
     let bad = |point: &u32| match class(*point, all) {
         None => true,
         Some((flags, range, lower)) => {
             let taken = flags & CHAR_ALPHABETIC != 0 && range != 0;
-            taken && lower != 0 && class(lower, all).is_none()
+            taken && (lower != 0 && class(lower, all).is_none() || *point == DOTTED_I && class(DOT_ABOVE, all).is_none())
         }
     };
     text.iter().position(bad).map(|i| (6, i as u32))

@@ -1,10 +1,12 @@
 // Texts, thresholds, numbers and tables that find faults in a ranking.
+use super::causes::{DOT_ABOVE, DOTTED_I};
 use crate::random::Random;
 use crate::tables::{BUILTIN_END, Record, random_records};
 use oracle::open::crate_class;
 use std::collections::BTreeMap;
 
 pub const LONGEST: usize = 8_192;
+const ACCENTUATED: u32 = 1 << 14;
 const CHAR_ALPHABETIC: u32 = 1 << 24;
 const BETWEEN: [u32; 8] = [0x20, 0x20, 0x20, 0x0A, 0x2C, 0x2E, 0x31, 0x2D];
 const MOST_OF_A_RECORD: u32 = 40;
@@ -17,7 +19,7 @@ pub struct Letters {
 }
 
 impl Letters {
-    // Of the built-in characters and of some in each record; only such whose lower-case letter has a class.
+    // Of the built-in characters and of some in each record; only such whose lower-case letters have a class.
     pub fn new(records: &[Record]) -> Letters {
         let builtin = (0..BUILTIN_END).map(|p| {
             let class = crate_class(char::from_u32(p).expect("a scalar value"));
@@ -27,7 +29,7 @@ impl Letters {
         let mut ranges: BTreeMap<u16, Vec<u32>> = BTreeMap::new();
         let mut written: BTreeMap<u32, Vec<u32>> = BTreeMap::new();
         for (first, last, flags, range, lower) in builtin.chain(records.iter().map(|r| (r.first, r.last, r.flags, r.range, r.lower))) {
-            if flags & CHAR_ALPHABETIC == 0 || range == 0 || (lower != 0 && !classed(lower)) {
+            if flags & CHAR_ALPHABETIC == 0 || range == 0 || (lower != 0 && !classed(lower)) || (first == DOTTED_I && !classed(DOT_ABOVE)) {
                 continue;
             }
             for point in (first..=last).take(MOST_OF_A_RECORD as usize) {
@@ -173,5 +175,35 @@ pub fn random_classes(r: &mut Random) -> Vec<Record> {
             record.lower = lower;
         }
     }
+    if r.below(2) == 0 {
+        put_dot(r, &mut records, ranges);
+    }
     records
+}
+
+// A record of U+0307 alone, of any kind, where none holds it: with it U+0130 is no longer refused.
+fn put_dot(r: &mut Random, records: &mut Vec<Record>, ranges: usize) {
+    let at = records.partition_point(|record| record.last < DOT_ABOVE);
+    if records.get(at).is_some_and(|record| record.first <= DOT_ABOVE) {
+        return;
+    }
+    let flags = *r.pick(&[0, ACCENTUATED, CHAR_ALPHABETIC, CHAR_ALPHABETIC | ACCENTUATED]);
+    let range = r.below(1 + ranges) as u16;
+    records.insert(at, Record { first: DOT_ABOVE, last: DOT_ABOVE, flags, range, zero: 0, base: 0, lower: 0 });
+}
+
+// Turkish place names as they stand on signs and in letters: U+0130 and U+0131 beside I and i.
+const PLACES: [&str; 12] = [
+    "İSTANBUL", "İzmir", "İZMİR", "Diyarbakır", "DİYARBAKIR", "Iğdır", "İskenderun", "ŞİŞLİ", "Eskişehir", "ÇİÇEKDAĞI", "Kırklareli", "BİTLİS",
+];
+
+// Such names with spaces and marks between, n characters of them.
+pub fn turkish(r: &mut Random, n: usize) -> Vec<u32> {
+    let mut text: Vec<u32> = vec![];
+    while text.len() < n {
+        text.extend(r.pick(&PLACES).chars().map(u32::from));
+        text.push(*r.pick(&BETWEEN));
+    }
+    text.truncate(n);
+    text
 }

@@ -2,13 +2,13 @@
 -- Assumes nothing.
 use Prim.Native.Nat.{ℕ}
 
--- letters of a layer: one for each code point
+-- letters of a layer: one for each code point, and two for U+0130 (02 [4])
 abbrev pub LONGEST-LAYER : ℕ
-LONGEST-LAYER = 8192
+LONGEST-LAYER = 16384
 
--- distinct letters of a layer
+-- distinct letters of a layer: one for each code point, and U+0307
 abbrev pub MOST-LETTERS : ℕ
-MOST-LETTERS = 8192
+MOST-LETTERS = 8193
 
 -- above every record's place, whether counted from 0 or from 1: a key that ranks records keeps the record below this
 abbrev pub RECORDS : ℕ

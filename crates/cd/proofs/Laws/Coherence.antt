@@ -12,25 +12,25 @@ use Rattle.base.specs.declared.Cause.{Cause}
 use Rattle.base.specs.declared.Cause.the-variants.{Allowed, Refused}
 use Rattle.base.specs.declared.Refusal.{Refusal}
 use Rattle.base.specs.Limits.{LAST-RANGE, PAIR-BYTES, WORK-PER-POINT}
-use Rattle.base.specs.Inner.Limits.{LONGEST-LAYER}
+use Rattle.base.specs.Inner.Limits.{MOST-LETTERS}
 use Rattle.base.specs.Put.{put}
 use Rattle.base.proofs.Laws.Put.{put-forgets}
 use Rattle.ratio.specs.Finite.{isFinite}
 use Rattle.cd_languages.proofs.Laws.Languages.{good-most}
 use Rattle.cd_work.specs.Inner.Layout.{words, lettersStart, lacksStart}
 use Rattle.cd_work.specs.Inner.Parts.{Room, Kept, numbersIn, lettersIn}
-use Rattle.cd_layers.specs.Layers.{Taken, Layer, alphaUnicodeSplit}
+use Rattle.cd_layers.specs.Layers.{Layer, alphaUnicodeSplit}
 use Rattle.cd_layers.specs.Inner.Numbers.{numbers, keysOf, Below}
 use Rattle.cd_layers.proofs.Laws.Numbers.{alone, layers-few}
 use Rattle.cd_layers.proofs.Laws.Layers.{layer-alone, layer-count}
 use Rattle.cd_layers.proofs.Laws.Joining.{lettersAt}
 use Rattle.cd_layers.specs.Inner.Split.{Split}
 use Rattle.cd_layers.proofs.Laws.Split.{split-size, split-numbers, split-back}
+use Rattle.cd_letters.specs.Letters.{ranking}
 use Rattle.cd_letters.specs.Inner.LayerLetters.{layerLetters}
-use Rattle.cd_letters.proofs.Laws.LayerLetters.{letters-to-few}
 use Rattle.cd_taken.specs.Taken.{takenChars}
-use Rattle.cd_taken.specs.Inner.Area.{slotsOf, rangesOf, lowersOf, filled}
-use Rattle.cd_taken.proofs.Laws.Area.{taken-is, ranges-below, ranges-length, lowers-length, slots-room, filled-ranges, filled-lowers, filled-back, filled-size}
+use Rattle.cd_taken.specs.Inner.Area.{slotsOf, rangesOf, lowersOf, filled, FewUndotted}
+use Rattle.cd_taken.proofs.Laws.Area.{split-taken, ranges-below, ranges-length, lowers-length, lowers-undotted, slots-few, slots-room, filled-ranges, filled-lowers, filled-back, filled-size}
 use Rattle.cd_best.specs.declared.Standing.{Standing}
 use Rattle.cd_best.specs.Kept.{Hit}
 use Rattle.cd_best.specs.Inner.Standing.{bestAt, start}
@@ -48,7 +48,7 @@ use Rattle.cd.specs.KeptMatches.{keptOf}
 use Rattle.cd.proofs.Laws.Kept.{layers-tallies}
 use Rattle.cd.specs.Inner.After.{layersAfter}
 use Rattle.cd.specs.Inner.Reading.{readFrom}
-use Rattle.cd.proofs.Loops.Reading.{read-layers}
+use Rattle.cd.proofs.Loops.Reading.{layer-distinct, read-layers}
 
 alone-length : (xs : List ℕ) → length (alone xs) ≡ length xs
 alone-length [] = refl
@@ -99,31 +99,30 @@ module _ (text classes pairs t included w : List ℕ) (free : Free text classes 
     count-is =
         let e : c ≡ length (keysOf pairs (rangesOf classes text)) = rw (filled-ranges classes text w fill-room) at (s .count) in
         e
-        ∙ sym (ap (λ (cs : List Taken). length (alphaUnicodeSplit pairs cs)) (taken-is classes text)
+        ∙ sym (ap (λ (ys : List Layer). length ys) (split-taken pairs classes (free .tables .good) text)
         ∙ layer-count pairs (rangesOf classes text) (alone (lowersOf classes text)) alone-same)
       where
         alone-same : length (rangesOf classes text) ≡ length (alone (lowersOf classes text))
         alone-same = same-lengths ∙ sym (alone-length (lowersOf classes text))
+
+    letters-kept : lettersIn slots slots v ≡ lowersOf classes text
+    letters-kept =
+        ap (take slots) (split-back pairs slots (filled classes text w) s room (lettersStart slots) (omega arith)) ∙ filled-lowers classes text w fill-room
+
+    pub undotted-after : FewUndotted slots v
+    undotted-after = rw letters-kept (omega (arith, free .short, lowers-undotted classes text))
 
     -- and each with the letters of its number
     letters-are : (k : ℕ) → lettersAt k layersOf ≡ layerLetters slots (k + 1) v
     letters-are k =
         let a : numbersIn slots slots v ≡ numbers pairs (rangesOf classes text) =
         split-numbers pairs slots (filled classes text w) s room ∙ ap (numbers pairs) (filled-ranges classes text w fill-room) in
-        let b : lettersIn slots slots v ≡ lowersOf classes text =
-        ap (take slots) (split-back pairs slots (filled classes text w) s room (lettersStart slots) (omega arith)) ∙ filled-lowers classes text w fill-room in
-        rw (a, b)
-        (ap (λ (cs : List Taken). lettersAt k (alphaUnicodeSplit pairs cs)) (taken-is classes text)
+        rw (a, letters-kept)
+        (ap (λ (ys : List Layer). lettersAt k ys) (split-taken pairs classes (free .tables .good) text)
         ∙ layer-alone pairs (rangesOf classes text) (lowersOf classes text) same-lengths k)
 
-    pub letters-short : (k : ℕ) → length (lettersAt k layersOf) ≤ LONGEST-LAYER
-    letters-short k =
-        omega (
-          arith,
-          ap length (letters-are k),
-          letters-to-few slots (k + 1) slots v (omega (arith, room-after .wide)),
-          work-room .few,
-        )
+    pub letters-distinct : (k : ℕ) → length (ranking (lettersAt k layersOf)) ≤ MOST-LETTERS
+    letters-distinct k = rw (letters-are k) (layer-distinct slots (k + 1) v room-after undotted-after)
 
     module _ (threshold : Float) (small : ℕ) where
       abbrev standing : Standing
@@ -138,7 +137,7 @@ module _ (text classes pairs t included w : List ℕ) (free : Free text classes 
       -- what is read tallies with the kept matches
       pub standing-tallies : Tallies (Known t) hits standing
       standing-tallies =
-          rw standing-is (layers-tallies threshold small classes t included (free .comparable) start [] (start-tallies (Known t)) layersOf letters-short)
+          rw standing-is (layers-tallies threshold small classes t included (free .comparable) start [] (start-tallies (Known t)) layersOf letters-distinct)
 
       pub ranked-is : (x : Ranking) → x ≡ byValue (inRank t (bestAt standing) (keptRecords standing))
           → x ≡ byValue (matchesOf text threshold small classes pairs t included)
@@ -154,7 +153,7 @@ module _ (text classes pairs t included w : List ℕ) (free : Free text classes 
         let back : drop (words slots) u ≡ drop (words slots) w =
         k .back ∙ split-back pairs slots (filled classes text w) s room (words slots) (omega arith)
         ∙ filled-back classes text w fill-room (words slots) (omega arith) in
-        e ∙ put-forgets u w (replicate (WORK-PER-POINT * length text) 0) (words slots) (omega (arith, zeros)) back
+        e ∙ put-forgets u w (replicate (WORK-PER-POINT * length text) 0) (words slots) (omega (arith, zeros, slots-few text)) back
 
 -- ---- what each way through the call shows
 module _ (text : List ℕ) (threshold : Float) (small : ℕ) (classes pairs t included : List ℕ) (work room : ℕ) (w : List ℕ) where

@@ -10,14 +10,13 @@ use native.Mathlib.Omega.{arith}
 use lib.Dec.{leb}
 use lib.Ieee.{Float, lt}
 use lib.ListN.{length, length-append}
-use Rattle.base.specs.Inner.Limits.{LONGEST-LAYER, MOST-LETTERS}
+use Rattle.base.specs.Inner.Limits.{MOST-LETTERS}
 use Rattle.base.proofs.Laws.Tests.{cond-both}
 use Rattle.base.proofs.Laws.In.{In, in-either}
 use Rattle.ratio.specs.Inner.Finite.{Plain}
 use Rattle.cd_layers.specs.Layers.{Layer, alphaUnicodeSplit}
 use Rattle.cd_layers.proofs.Laws.Joining.{lettersAt}
 use Rattle.cd_letters.specs.Letters.{ranking}
-use Rattle.cd_letters.proofs.Laws.Letters.{ranking-few}
 use Rattle.cd_taken.specs.Taken.{takenChars}
 use Rattle.cd_taken.specs.Accents.{someAccented}
 use Rattle.cd_matches.specs.Matches.{scoresOf}
@@ -84,7 +83,7 @@ module _ (threshold : Float) (small : ℕ) (classes t included : List ℕ) (good
       (walk-tallies (Known t) plain threshold s hits b records (scoresOf t order records)
       (match-known t included (someAccented classes order) order (good .languages) (good .included) h))
 
-  layer-tallies : (s : Standing) (hits : List Hit) → Tallies (Known t) hits s → (letters : List ℕ) → length letters ≤ LONGEST-LAYER
+  layer-tallies : (s : Standing) (hits : List Hit) → Tallies (Known t) hits s → (letters : List ℕ) → length (ranking letters) ≤ MOST-LETTERS
       → Tallies (Known t) (layerKept threshold small classes t included hits letters) (layerAfter threshold small classes t included s letters)
   unfolding layerKept layerAfter
   layer-tallies s hits b letters h =
@@ -92,9 +91,9 @@ module _ (threshold : Float) (small : ℕ) (classes t included : List ℕ) (good
       hits (orderKept threshold small classes t included hits (ranking letters))
       s (orderAfter threshold classes t included s (ranking letters))
       b
-      (order-tallies s hits b (ranking letters) (omega (arith, ranking-few letters, h)))
+      (order-tallies s hits b (ranking letters) h)
 
-  pub layers-tallies : (s : Standing) (hits : List Hit) → Tallies (Known t) hits s → (ys : List Layer) → ((k : ℕ) → length (lettersAt k ys) ≤ LONGEST-LAYER)
+  pub layers-tallies : (s : Standing) (hits : List Hit) → Tallies (Known t) hits s → (ys : List Layer) → ((k : ℕ) → length (ranking (lettersAt k ys)) ≤ MOST-LETTERS)
       → Tallies (Known t) (layersKept threshold small classes t included hits ys) (layersAfter threshold small classes t included s ys)
   unfolding layersKept layersAfter
   layers-tallies s hits b [] h = b

@@ -17,14 +17,18 @@ use Rattle.base.proofs.Laws.Tests.{cond-both}
 use Rattle.cd_work.specs.Inner.Layout.{lettersStart, lacksStart, orderStart}
 use Rattle.cd_work.specs.Inner.Parts.{Room, Kept, numbersIn, lettersIn}
 use Rattle.cd_work.proofs.Laws.Layer.{kept-same, kept-on}
+use Rattle.cd_work.proofs.Laws.Text as text
 use Rattle.cd_layers.specs.Layers.{Layer}
 use Rattle.cd_layers.proofs.Laws.Joining.{lettersAt}
 use Rattle.cd_letters.specs.Letters.{count, ranking}
 use Rattle.cd_letters.specs.Inner.LayerLetters.{layerLetters}
 use Rattle.cd_letters.specs.Inner.Ranked.{Ranked}
-use Rattle.cd_letters.proofs.Laws.LayerLetters.{letters-size, letters-same}
+use Rattle.cd_letters.proofs.Laws.Letters.{ranking-fewer}
+use Rattle.cd_letters.proofs.Laws.LayerLetters.{letters-size, letters-same, letters-others}
 use Rattle.cd_letters.proofs.Laws.Ranked.{ranked-few, ranked-order}
+use Rattle.cd_taken.specs.Taken.{DOT-ABOVE}
 use Rattle.cd_taken.specs.Accents.{someAccented}
+use Rattle.cd_taken.specs.Inner.Area.{FewUndotted}
 use Rattle.cd_matches.specs.Inner.LayerRead.{layerRead}
 use Rattle.cd_matches.proofs.Laws.Matches.{layer-few}
 use Rattle.cd_best.specs.declared.Standing.{Standing}
@@ -32,6 +36,11 @@ use Rattle.cd_best.specs.Inner.Standing.{MOST-BEFORE, start}
 use Rattle.cd.specs.Inner.Comparable.{Comparable}
 use Rattle.cd.specs.Inner.After.{orderAfter, layerAfter, layersAfter}
 use Rattle.cd.specs.Inner.Reading.{readFrom}
+
+-- a layer has one letter more at most than the longest text has code points, U+0307
+pub layer-distinct : (n k : ℕ) (w : List ℕ) → Room n w → FewUndotted n w → length (ranking (layerLetters n k w)) ≤ MOST-LETTERS
+layer-distinct n k w z f =
+    omega (arith, f, ranking-fewer (layerLetters n k w) DOT-ABOVE, letters-others DOT-ABOVE n k n w (omega (arith, z .wide)))
 
 module _ (threshold : Float) (small : ℕ) (classes t included : List ℕ) where
   -- the layers by number are 01's, where each has the letters of its number
@@ -89,8 +98,8 @@ module _ (threshold : Float) (small : ℕ) (classes t included : List ℕ) where
           let e : orderStart n + d - orderStart n ≡ d = omega arith in
           rw (a, e) (ranked-order n k w r z)
 
-      pub standing-few : length standing ≤ MOST-LETTERS
-      standing-few = omega (arith, ap length standing-is, r .count, ranked-few n k w r z, z .few)
+      pub standing-few : FewUndotted n w → length standing ≤ MOST-LETTERS
+      standing-few f = omega (arith, ap length standing-is, layer-distinct n k w z f)
 
       pub standing-end : begin + d ≤ length w
       standing-end = omega (arith, a, ranked-few n k w r z, z .wide)
@@ -128,6 +137,9 @@ module _ (threshold : Float) (small : ℕ) (classes t included : List ℕ) where
 
       pub read-room : Room n w → Room n v
       read-room z = record { few = z .few; wide = omega (arith, z .wide, g .kept .size) }
+
+      pub read-undotted : FewUndotted n w → FewUndotted n v
+      read-undotted f = rw (text.letters-same n n v w (le-refl n) (g .kept .text)) f
 
       -- there are at most LAST-RANGE layers
       pub read-bound : total ≤ LAST-RANGE → s .sufficient ≤ MOST-BEFORE

@@ -1,14 +1,15 @@
 -- The filled area is split, the split one read, and each layer read has the letters that 01 gives it; the cleared area has nothing left of them. Assumes nothing.
 use native.Mathlib.Omega.{arith}
-use Rattle.cd.proofs.Laws.Coherence.{fill-room, split-needs, split-room, room-after, few-layers, standing-tallies, ranked-is, cleared-is}
+use Rattle.cd.proofs.Laws.Coherence.{fill-room, split-needs, split-room, room-after, undotted-after, few-layers, standing-tallies, ranked-is, cleared-is}
 use borrow.Author.Needs.{needs}
 use Rattle.cd.proofs.rank_text.Statement.{statement}
 use Rattle.cd.proofs.rank_text.Tie as tie
 
 fill-area-requires : tie.Need-fill-area-requires
 fill-area-requires c κs =
-    let asked = c .before .before .before .before .before .before .before .before in
-    (asked .pre .tables .good, fill-room _ _ _ _ _ (asked .args .work .now) (asked .pre))
+    let at-slots = c .before in
+    let asked = at-slots .before .before .before .before .before .before .before in
+    (asked .pre .tables .good, at-slots .slots .ensures, rw (at-slots .slots .ensures) (fill-room _ _ _ _ _ (asked .args .work .now) (asked .pre)))
 
 alpha-unicode-split-requires : tie.Need-alpha-unicode-split-requires
 alpha-unicode-split-requires c κs =
@@ -23,8 +24,12 @@ read-layers-requires c κs =
     let at-fill = at-alpha-unicode-split .before .before .before .before in
     let at-slots = at-fill .before .before in
     let asked = at-slots .before .before .before .before .before .before .before in
-    let split = rw (at-slots .slots .ensures, at-fill .fill-area .ensures) at (at-alpha-unicode-split .alpha-unicode-split .ensures) in
-    (asked .pre .comparable, rw (at-slots .slots .ensures) (room-after _ _ _ _ _ _ (asked .pre) split), few-layers _ _ _ _ _ _ (asked .pre) split)
+    let split = rw (at-slots .slots .ensures, at-fill .fill-area .ensures) at (at-alpha-unicode-split .alpha-unicode-split .ensures) in (
+      asked .pre .comparable,
+      rw (at-slots .slots .ensures) (room-after _ _ _ _ _ _ (asked .pre) split),
+      rw (at-slots .slots .ensures) (undotted-after _ _ _ _ _ _ (asked .pre) split),
+      few-layers _ _ _ _ _ _ (asked .pre) split,
+    )
 
 mul-clear : tie.Need-mul-clear
 mul-clear c =

@@ -29,6 +29,10 @@ use Rattle.cd_jaro.proofs.Laws.Held.{Exact, Held, exact, held}
 over-1 : (a : ℕ) → 0 < a → a < 2 ^ 53 → Exact binary64 a 1
 over-1 a h k = exact binary64 a 0 1074 h k refl
 
+-- a power of two that is no less than MOST-LETTERS: a fraction with it f64 holds
+abbrev TERMS : ℕ
+TERMS = 16384
+
 over-256 : (a : ℕ) → 0 < a → a < 2 ^ 53 → Exact binary64 a 256
 over-256 a h k = exact binary64 a 8 1066 h k refl
 
@@ -64,7 +68,7 @@ sum-at : {x y : Float} {a c b d a' c' b' d' : ℕ} (g : Held binary64 x a c b d)
     → add binary64 x y ≡ round binary64 false (g .parts + k .parts) (2 ^ 1074)
 sum-at {x} {y} g k = add-at binary64 (g .parts) (k .parts) (2 ^ 1074) (pow-pos 1074) x y (g .value) (k .value)
 
-module _ {x y z : Float} (X : Held binary64 x 1 MOST-LETTERS 1 1) (Y : Held binary64 y 1 256 1 1) (Z : Held binary64 z 128 256 1 1) where
+module _ {x y z : Float} (X : Held binary64 x 1 TERMS 1 1) (Y : Held binary64 y 1 256 1 1) (Z : Held binary64 z 128 256 1 1) where
   one : Held binary64 (add binary64 x y) 1 256 2 1
   one =
       rw (sum-at X Y)
@@ -86,10 +90,10 @@ module _ {x y z : Float} (X : Held binary64 x 1 MOST-LETTERS 1 1) (Y : Held bina
       (third-least (2 ^ 1074) (two .parts) (two .least)) (third-most (2 ^ 1074) (two .parts) (two .most)))
 
 module _ (m t a b : ℕ) (M : 0 < m) (A : m ≤ a) (B : m ≤ b) (H : t * 2 ≤ m) (L : a ≤ MOST-LETTERS) (K : b ≤ LANGUAGE-LETTERS) where
-  first-term : Held binary64 (over m a) 1 MOST-LETTERS 1 1
+  first-term : Held binary64 (over m a) 1 TERMS 1 1
   first-term =
       rw (over-is m a (omega arith) (omega arith) L)
-      (held binary64 m a (omega arith) (exact binary64 1 13 1061 (lit< tt) (lit< tt) refl) (over-1 1 (lit< tt) (lit< tt)) (omega arith) (omega arith))
+      (held binary64 m a (omega arith) (exact binary64 1 14 1060 (lit< tt) (lit< tt) refl) (over-1 1 (lit< tt) (lit< tt)) (omega arith) (omega arith))
 
   second-term : Held binary64 (over m b) 1 256 1 1
   second-term =

@@ -1,6 +1,5 @@
 -- By what the lookup finds; a character that is its own lower case has the class that was found. Assumes nothing.
-use mathlib.Core.Path.{sym, _∙_, ap}
-use Rattle.classes.specs.Lookup.{classOf}
+use mathlib.Core.Path.{sym, _∙_}
 use Rattle.cd_taken.proofs.Laws.Unclassed.{unclassed-none, unclassed-taken, unclassed-not-taken, unclassed-itself}
 use borrow.Author.Needs.{needs}
 use Rattle.cd_taken.proofs.is_unclassed.Statement.{statement}
@@ -18,12 +17,13 @@ returns c = sym (unclassed-none _ (sym (c .before .before .look-up-near .ensures
 returns-2 : tie.Need-returns-2
 returns-2 c =
     let found = c .before .before .before in
-    sym (unclassed-itself _ (sym (found .before .before .look-up-near .ensures) ∙ found .c .given .1) (ap (classOf _) (c .if1 .taken)))
+    let asked = found .before .before .before .before .before in
+    sym (unclassed-itself _ (asked .pre .0) (sym (found .before .before .look-up-near .ensures) ∙ found .c .given .1) (c .if1 .taken))
 
 returns-3 : tie.Need-returns-3
 returns-3 c =
     let found = c .before .before .before .before .before .before .before in
-    c .is-missing .ensures
+    c .some-missing .ensures
     ∙ sym (unclassed-taken _ (sym (found .before .before .look-up-near .ensures) ∙ found .c .given .1) (sym (c .before .before .before .is-taken .ensures) ∙ c .before .before .if2 .taken))
 
 returns-4 : tie.Need-returns-4

@@ -12,7 +12,7 @@ use Rattle.replay_jaro.proofs.main.Tie as tie
 
 -- as in src/main.rt
 abbrev CASE-BYTES : ℕ
-CASE-BYTES = 33824
+CASE-BYTES = 33828
 
 abbrev Inv-loop : tie.InvT-loop
 Inv-loop buf₀ layer₀ language₀ t₀ buf layer language t = Replaying CASE-BYTES buf t × (length layer ≡ MOST-LETTERS) × (length language ≡ LANGUAGE-LETTERS)

@@ -9,6 +9,11 @@ use Rattle.replay_layers.proofs.past_layer.Tie as tie
 slice-aggregate-size : tie.Need-slice-aggregate-size
 slice-aggregate-size c = counted _ _ (c .before .before .before .pre .1)
 
+size-requires : tie.Need-size-requires
+size-requires c κs =
+    let asked = c .before .before .before in
+    omega (arith, counted (asked .args .n) (asked .args .work .now) (asked .pre .1), asked .pre .2)
+
 add-next-2 : tie.Need-add-next-2
 add-next-2 c =
     let at-size = c .before .before .before .before .before .before .before in
@@ -54,7 +59,7 @@ past-layer-spec =
     (tie.spec
     (λ c. search needs)
     slice-aggregate-size
-    (λ c κs. search needs)
+    size-requires
     (λ c. search needs)
     (λ c κs. search needs)
     (λ c. search needs)

@@ -15,6 +15,12 @@ slice-aggregate-size c =
     let asked = c .before .before .before .before .before in
     sym (length-take-le _ _ (omega (arith, asked .pre .1 .wide)))
 
+size-requires : tie.Need-size-requires
+size-requires c κs =
+    let asked = c .before .before .before .before .before in
+    let whole = length-take-le (asked .args .slots) (asked .args .work .now) (omega (arith, asked .pre .1 .wide)) in
+    omega (arith, whole, asked .pre .1 .few)
+
 returns : tie.Need-returns
 returns c =
     let at-size = c .before in
@@ -50,8 +56,9 @@ read-order-requires c κs =
     let asked = at-rank .before .before .before .before .before .before .before .before .before in (
       asked .pre .0,
       standing-few (asked .args .threshold) (asked .args .small) (now (asked .args .classes)) (now (asked .args .languages))
-          (now (asked .args .included)) _ _ _ (asked .pre .1) (asked .args .s) (at-rank .rank .ensures) (at-order-start .order-start .ensures),
-      asked .pre .2,
+          (now (asked .args .included)) _ _ _ (asked .pre .1) (asked .args .s) (at-rank .rank .ensures) (at-order-start .order-start .ensures)
+          (asked .pre .2),
+      asked .pre .3,
     )
 
 returns-2 : tie.Need-returns-2
@@ -72,7 +79,7 @@ read-layer-spec =
     (tie.spec
     (λ c. search needs)
     slice-aggregate-size
-    (λ c κs. search needs)
+    size-requires
     (λ c. search needs)
     returns
     (λ c κs. search needs)

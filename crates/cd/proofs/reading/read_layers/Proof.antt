@@ -3,7 +3,7 @@
 use Prim.Native.Nat.{_-_}
 use native.Mathlib.Omega.{arith}
 use Rattle.cd_best.specs.Inner.Standing.{start}
-use Rattle.cd.proofs.Loops.Reading.{Reading, read-start, read-room, read-more, read-bound, read-end}
+use Rattle.cd.proofs.Loops.Reading.{Reading, read-start, read-room, read-undotted, read-more, read-bound, read-end}
 use borrow.Author.Needs.{needs}
 use Rattle.cd.proofs.reading.read_layers.Statement.{statement}
 use Rattle.cd.proofs.reading.read_layers.Tie as tie
@@ -20,19 +20,23 @@ loop-holds c = rw (c .start .ensures) (read-start _ _ _ _ _ _ _ _)
 add-k : tie.Need-add-k Inv-loop μ-loop
 add-k c =
     let asked = c .before .before .before .before .before .before .before in
-    omega (arith, c .loop-test .taken, asked .pre .2)
+    omega (arith, c .loop-test .taken, asked .pre .3)
 
 cast-read-layer : tie.Need-cast-read-layer Inv-loop μ-loop
 cast-read-layer c =
     let at-loop-test = c .before in
     let asked = at-loop-test .before .before .before .before .before .before .before in
-    omega (arith, at-loop-test .loop-test .taken, asked .pre .2)
+    omega (arith, at-loop-test .loop-test .taken, asked .pre .3)
 
 read-layer-requires : tie.Need-read-layer-requires Inv-loop μ-loop
 read-layer-requires c κs =
     let at-loop = c .before .before in
-    let asked = at-loop .before .before .before .before .before .before in
-    (asked .pre .0, read-room _ _ _ _ _ _ _ _ (at-loop .loop .inv) (asked .pre .1), read-bound _ _ _ _ _ _ _ _ (at-loop .loop .inv) (asked .pre .2))
+    let asked = at-loop .before .before .before .before .before .before in (
+      asked .pre .0,
+      read-room _ _ _ _ _ _ _ _ (at-loop .loop .inv) (asked .pre .1),
+      read-undotted _ _ _ _ _ _ _ _ (at-loop .loop .inv) (asked .pre .2),
+      read-bound _ _ _ _ _ _ _ _ (at-loop .loop .inv) (asked .pre .3),
+    )
 
 loop-again : tie.Need-loop-again Inv-loop μ-loop
 loop-again c =
