@@ -14,8 +14,8 @@ fn said(text: &str, detector: Detector) -> (u32, u32, bool, f32) {
 #[test]
 fn both_sides_of_each_cut_off() {
     // 3 of 10 is kept, 3 of 11 is not; the newline is printable
-    assert_eq!(said("!;!aaaaaa", Detector::Symbols), (3, 10, false, 0.3));
-    assert_eq!(said("!;!aaaaaaa", Detector::Symbols), (3, 11, true, 0.0));
+    assert_eq!(said("!?!aaaaaa", Detector::Symbols), (3, 10, false, 0.3));
+    assert_eq!(said("!?!aaaaaaa", Detector::Symbols), (3, 11, true, 0.0));
     // 8 letters are enough, 7 are not
     assert_eq!(said("éaéaéaéa", Detector::Accents), (4, 8, false, 0.5));
     assert_eq!(said("éaéaéaé", Detector::Accents), (4, 7, true, 0.0));
@@ -31,8 +31,8 @@ fn both_sides_of_each_cut_off() {
 fn factors_are_in_the_numerator() {
     assert_eq!(said("a\u{1}", Detector::Unprintable), (8, 3, false, 8.0 / 3.0));
     assert_eq!(said("aéèa", Detector::Doubled), (2, 4, false, 0.5));
-    // "§" is a symbol and counts twice
-    assert_eq!(said("§a", Detector::Symbols).0, 2);
+    // "©" is a symbol and counts twice, "§" is punctuation
+    assert_eq!((said("©a", Detector::Symbols).0, said("§a", Detector::Symbols).0), (2, 1));
 }
 
 #[test]
