@@ -269,11 +269,22 @@ impl Run {
         let (mut passed, mut refused) = (0u64, 0u64);
         for _ in 0..times {
             let n = 1 + self.random.below(200);
-            let received = self.random.below(n + 1);
+            let received = if self.random.below(3) == 0 { n } else { self.random.below(n + 1) };
             let text = alphabet.text(&mut self.random, n);
             let mut state = self.opened(n as u32, 1000.0, &real);
             state = self.fed_some(&state, &text[..received], false, &real).1;
-            let hostile = self.hostile(&state, received as u32);
+            let mut hostile = self.hostile(&state, received as u32);
+            match self.random.below(8) {
+                0 => {
+                    hostile = state;
+                    hostile[STOPPED] = 1 + self.random.below(9) as u32;
+                }
+                1 => {
+                    hostile = state;
+                    hostile[LENGTH] = (received as u32 + 1).saturating_sub(self.random.below(3) as u32);
+                }
+                _ => {}
+            }
             if bad(&hostile) { refused += 1 } else { passed += 1 }
             self.fed_some(&hostile, &[text[0]], true, &real);
             // a chunk leaves what its characters leave one by one, or is refused where one of them is
