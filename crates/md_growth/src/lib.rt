@@ -1,6 +1,8 @@
 // Where each detector's numerator last grew, kept beside the eight detectors (02 [8], for the running score too). It is found by comparing the
 // counts before and after a step, so that no detector's step knows of it; a scan that does not ask for it steps the eight alone.
 ghost use mathlib.Core.Path.{_≡_};
+ghost use Rattle.md_eight.specs.Detectors as detectors;
+ghost use Rattle.md_eight.specs.Inner.Detectors.{Room};
 ghost use Rattle.md_growth.specs.Growth as growth;
 ghost use Rattle.md_growth.specs.Inner.Growth.{Watchable};
 use base::pick;
@@ -71,6 +73,24 @@ fn grown_after(last: Growths, before: EightCounts, after: EightCounts, place: u3
     }
 }
 
+// One character, fed to the eight, as Detectors::feed does. The scan's own step must have one place from which it is called, else it goes out of line
+// and the state with it into memory, which more than doubles what a character costs.
+pub fn fed_watched(s: Detectors, c: Class, suspicious: bool) -> Detectors
+    requires { ⌜ Room s ⌝ }
+    ensures { λ r. ⌜ r ≡ detectors.feed s c suspicious ⌝ }
+{
+    Detectors {
+        symbols: s.symbols.feed(c),
+        accents: s.accents.feed(c),
+        unprintable: s.unprintable.feed(c),
+        ranges: s.ranges.feed(c, suspicious),
+        doubled: s.doubled.feed(c),
+        words: s.words.feed(c),
+        stops: s.stops.feed(c),
+        archaic: s.archaic.feed(c),
+    }
+}
+
 impl Watched {
     pub fn start() -> Watched
         ensures { λ r. ⌜ r ≡ growth.start ⌝ }
@@ -87,7 +107,7 @@ impl Watched {
         ensures { λ r. ⌜ r ≡ growth.watch self c suspicious place ⌝ }
     {
         let before = self.eight.counts();
-        let eight = self.eight.feed(c, suspicious);
+        let eight = fed_watched(self.eight, c, suspicious);
         Watched {
             eight: eight,
             grown: grown_after(self.grown, before, eight.counts(), place),

@@ -6,18 +6,18 @@ ghost use Rattle.md.specs.Scan.{unless};
 ghost use Rattle.md_running.specs.Closing as closings;
 ghost use Rattle.md_running.specs.Inner.Sound.{Sound};
 use crate::Running;
+use crate::over::over_at;
 use base::flags::ASCII;
 use base::flags::SEPARATOR;
 use base::flags::WHITESPACE;
 use base::limits::NEWLINE;
 use base::refusals::LINE_SHORT;
 use classes::Class;
-use md::Limit;
 use md::Scored;
-use md::scan::is_over;
 use md::scan::scored;
 use md::unscored;
 use md_eight::Detectors;
+use md_growth::fed_watched;
 
 // The class of the newline, which the built-in table has: no table is lent to a closing.
 fn newline() -> Class
@@ -37,7 +37,7 @@ fn ended(s: Running) -> Detectors
     requires { ⌜ Sound s ⌝ }
     ensures { λ r. ⌜ r ≡ closings.ended s ⌝ }
 {
-    s.watched.eight.feed(newline(), false)
+    fed_watched(s.watched.eight, newline(), false)
 }
 
 // The answer, the state being checked.
@@ -53,6 +53,6 @@ pub fn close_sound(s: Running) -> Scored
     }
     let eight = ended(s);
     let n = s.length as usize;
-    let over = is_over(eight, n, n, Limit::Threshold(s.threshold));
+    let over = over_at(eight, n, n, s.threshold);
     scored(eight, s.length + 1, over)
 }

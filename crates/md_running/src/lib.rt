@@ -23,6 +23,7 @@ use step::unfed;
 
 mod chunk;
 mod closing;
+mod over;
 mod state;
 mod step;
 

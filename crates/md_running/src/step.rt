@@ -11,6 +11,7 @@ ghost use Rattle.md_running.specs.Inner.Sound.{Sound};
 ghost use Rattle.md_running.specs.Inner.Step.{Taking, HasRoom, badCall};
 use crate::Fed;
 use crate::Running;
+use crate::over::over_at;
 use crate::state::bad_state;
 use base::Cause;
 use base::Counted;
@@ -20,8 +21,6 @@ use base::refusals::UNCLASSED;
 use base::refuse;
 use classes::Class;
 use classes::Found;
-use md::Limit;
-use md::scan::is_over;
 use md::tables::check_tables;
 use md_growth::Watched;
 
@@ -82,11 +81,11 @@ fn fed_on(s: Running, c: Class, pairs: &[u8]) -> Running
     let place = s.received + 1;
     let suspicious = classes::is_suspicious(pairs, s.watched.eight.last_range(), c.range);
     let watched = s.watched.watch(c, suspicious, place);
-    let stopped = is_over(
+    let stopped = over_at(
         watched.eight,
         s.length as usize,
         s.received as usize,
-        Limit::Threshold(s.threshold),
+        s.threshold,
     );
     Running {
         length: s.length,

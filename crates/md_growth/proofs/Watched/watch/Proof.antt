@@ -5,7 +5,7 @@ use Rattle.md_growth.proofs.Watched.watch.Statement.{statement}
 use Rattle.md_growth.proofs.Watched.watch.Tie as tie
 
 after-countable : tie.Need-counts-requires-2
-after-countable c κs = rw (c .feed .ensures) (c .before .before .pre .after)
+after-countable c κs = rw (c .fed-watched .ensures) (c .before .before .pre .after)
 
 returns : tie.Need-returns
 unfolding watch
@@ -13,7 +13,7 @@ returns c =
     let counted = c .before in
     let stepped = counted .before in
     let before = stepped .before in
-    simp (c .grown-after .ensures, counted .counts2 .ensures, stepped .feed .ensures, before .counts .ensures)
+    simp (c .grown-after .ensures, counted .counts2 .ensures, stepped .fed-watched .ensures, before .counts .ensures)
 
 pub watch-spec : {M : Type 1} → statement M
 watch-spec =

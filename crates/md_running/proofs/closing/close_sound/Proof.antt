@@ -15,8 +15,8 @@ scored-requires c κs = sound-countable _ (c .before .before .before .pre)
 returns-2 : tie.Need-returns-2
 returns-2 c = c .scored .ensures ∙ close-stopped _ (c .before .before .if1 .left) (c .before .if2 .taken)
 
-is-over-requires : tie.Need-is-over-requires
-is-over-requires c κs =
+over-at-requires : tie.Need-over-at-requires
+over-at-requires c κs =
     let ended = c .before in
     rw (ended .ended .ensures) (ended-countable _ (ended .before .before .before .before .pre))
 
@@ -29,7 +29,7 @@ returns-3 : tie.Need-returns-3
 returns-3 c =
     let over = c .before .before in
     let ended = over .before .before in
-    c .scored2 .ensures ∙ close-over _ (ended .before .before .if1 .left) (ended .before .if2 .left) _ _ (ended .ended .ensures) (over .is-over .ensures)
+    c .scored2 .ensures ∙ close-over _ (ended .before .before .if1 .left) (ended .before .if2 .left) _ _ (ended .ended .ensures) (over .over-at .ensures)
 
 pub close-sound-spec : {M : Type 1} → statement M
 close-sound-spec =
@@ -41,7 +41,7 @@ close-sound-spec =
     returns-2
     (λ c κs. search needs)
     (λ c. search needs)
-    is-over-requires
+    over-at-requires
     (λ c. search needs)
     scored-requires-2
     returns-3)

@@ -5,12 +5,12 @@ use Rattle.md_running.proofs.Laws.Bounds.{sound-room}
 use Rattle.md_running.proofs.closing.ended.Statement.{statement}
 use Rattle.md_running.proofs.closing.ended.Tie as tie
 
-feed-requires : tie.Need-feed-requires
-feed-requires c κs = sound-room _ (c .before .pre)
+fed-watched-requires : tie.Need-fed-watched-requires
+fed-watched-requires c κs = sound-room _ (c .before .pre)
 
 returns : tie.Need-returns
 unfolding ended
 returns c = cc
 
 pub ended-spec : {M : Type 1} → statement M
-ended-spec = tie.close (tie.spec (λ c κs. search needs) feed-requires returns)
+ended-spec = tie.close (tie.spec (λ c κs. search needs) fed-watched-requires returns)

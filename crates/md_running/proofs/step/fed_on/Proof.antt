@@ -10,9 +10,9 @@ use Rattle.md_running.proofs.step.fed_on.Tie as tie
 watch-requires : tie.Need-watch-requires
 watch-requires c κs = sound-watchable _ (c .before .before .before .before .pre .sound) _ _
 
-is-over-requires : tie.Need-is-over-requires
+over-at-requires : tie.Need-over-at-requires
 unfolding watch
-is-over-requires c κs =
+over-at-requires c κs =
     let watched = c .before .before in
     rw (watched .watch .ensures) (fed-countable _ (watched .before .before .before .before .before .pre .sound) _ _)
 
@@ -21,7 +21,7 @@ unfolding fedOn stopsAt watchedNext
 returns c =
     let watched = c .before .before .before in
     let pair = watched .before in
-    simp (c .is-over .ensures, watched .watch .ensures, pair .is-suspicious .ensures, pair .before .last-range .ensures)
+    simp (c .over-at .ensures, watched .watch .ensures, pair .is-suspicious .ensures, pair .before .last-range .ensures)
 
 pub fed-on-spec : {M : Type 1} → statement M
 fed-on-spec =
@@ -33,5 +33,5 @@ fed-on-spec =
     watch-requires
     (λ c. search needs)
     (λ c. search needs)
-    is-over-requires
+    over-at-requires
     returns)
