@@ -26,7 +26,8 @@ def wrong_programs(crate, edits):
     for edit in edits:
         if edit.crate == crate:
             for program in edit.programs:
-                out[program.name] = f"- {program.name}: {program.sentence}{CHANGES[edit.kind]}"
+                kind = "contract" if program.contract else edit.kind
+                out[program.name] = f"- {program.name}: {program.sentence}{CHANGES[kind]}"
     if not out:
         raise Fault(f"docs/PROMISES.md: crate {crate} has no wrong programs")
     return [out[name] for name in sorted(out)]

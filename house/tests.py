@@ -1,5 +1,5 @@
 #!/usr/bin/env python3
-"""Whether house/definitions.py, promises.py and habits.py notice what they are there for: each fault is put into a copy of the tree, and must be found."""
+"""Whether house/definitions.py, promises.py and habits.py notice what they are there for: each fault is put into a copy of the tree, and must be found, and is taken back."""
 import shutil
 import subprocess
 import sys
@@ -7,22 +7,38 @@ import tempfile
 from pathlib import Path
 
 ROOT = Path(__file__).resolve().parent.parent
+before = {}  # what stood in each file that a fault has changed, None where there was none
+
+
+def write(path, text):
+    if path not in before:
+        before[path] = path.read_text(encoding="utf-8") if path.is_file() else None
+    path.write_text(text, encoding="utf-8")
+
+
+def undo():
+    for path, text in before.items():
+        if text is None:
+            path.unlink()
+        else:
+            path.write_text(text, encoding="utf-8")
+    before.clear()
 
 
 def changed(path, old, new):
     text = path.read_text(encoding="utf-8")
     assert old in text, f"{path}: {old}"
-    path.write_text(text.replace(old, new, 1), encoding="utf-8")
+    write(path, text.replace(old, new, 1))
 
 
 def law_among_definitions(tree):
     path = tree / "crates/base/specs/Numbers.antt"
-    path.write_text(path.read_text(encoding="utf-8") + "\npub bump-of-true : bump true ≡ 1\nbump-of-true = refl\n", encoding="utf-8")
+    write(path, path.read_text(encoding="utf-8") + "\npub bump-of-true : bump true ≡ 1\nbump-of-true = refl\n")
 
 
 def believed_word_inside(tree):
     inner = tree / "crates/md/specs/Inner/Strange.antt"
-    inner.write_text("-- Assumes nothing.\nuse lib.Ieee.{Float, ofBits, binary32}\n\nabbrev pub DEFAULT : Float\nDEFAULT = ofBits binary32 0x3E19999A\n", encoding="utf-8")
+    write(inner, "-- Assumes nothing.\nuse lib.Ieee.{Float, ofBits, binary32}\n\nabbrev pub DEFAULT : Float\nDEFAULT = ofBits binary32 0x3E19999A\n")
     page = tree / "crates/md/specs/MessRatio.antt"
     changed(page, "DEFAULT-THRESHOLD = ofBits binary32 0x3E19999A", "DEFAULT-THRESHOLD = DEFAULT")
     changed(page, "use Rattle.md.specs.Scan", "use Rattle.md.specs.Inner.Strange.{DEFAULT}\nuse Rattle.md.specs.Scan")
@@ -30,7 +46,7 @@ def believed_word_inside(tree):
 
 def strange_line(tree):
     path = tree / "crates/base/specs/Numbers.antt"
-    path.write_text(path.read_text(encoding="utf-8") + "\npostulate strange\n", encoding="utf-8")
+    write(path, path.read_text(encoding="utf-8") + "\npostulate strange\n")
 
 
 def page_edited(tree):
@@ -43,7 +59,7 @@ def definition_edited(tree):
 
 def sentence_without_definition(tree):
     path = tree / "house/sentences.txt"
-    path.write_text(path.read_text(encoding="utf-8") + "\n> A sentence that nobody has defined.\n", encoding="utf-8")
+    write(path, path.read_text(encoding="utf-8") + "\n> A sentence that nobody has defined.\n")
 
 
 def definition_without_sentence(tree):
@@ -52,7 +68,7 @@ def definition_without_sentence(tree):
 
 def program_not_listed(tree):
     edit = tree / "crates/base/must-fail/round_2.edit"
-    edit.write_text("wrong: strange: A strange program.\nrefused: pick at returns\nfile: src/lib.rt\nold:     if b { x } else { y }\nnew:     if b { x } else { x }\n", encoding="utf-8")
+    write(edit, "wrong: strange: A strange program.\nrefused: pick at returns\nfile: src/lib.rt\nold:     if b { x } else { y }\nnew:     if b { x } else { x }\n")
 
 
 def first_round(tree):
@@ -73,12 +89,12 @@ def refused_elsewhere(tree):
 
 def function_twice_in_a_round(tree):
     path = first_round(tree)
-    path.write_text(path.read_text(encoding="utf-8") + "\nwrong: again: Again.\nrefused: is_set at returns\nfile: src/lib.rt\nold: flags / bit\nnew: bit / flags\n", encoding="utf-8")
+    write(path, path.read_text(encoding="utf-8") + "\nwrong: again: Again.\nrefused: is_set at returns\nfile: src/lib.rt\nold: flags / bit\nnew: bit / flags\n")
 
 
 def definition_in_a_round(tree):
     path = first_round(tree)
-    path.write_text(path.read_text(encoding="utf-8") + "\nwrong: again: Again.\nrefused: is_set at returns\nfile: specs/First.antt\nold: first f n = seek f n 0\nnew: first f n = seek f n 1\n", encoding="utf-8")
+    write(path, path.read_text(encoding="utf-8") + "\nwrong: again: Again.\nrefused: is_set at returns\nfile: specs/First.antt\nold: first f n = seek f n 0\nnew: first f n = seek f n 1\n")
 
 
 def long_line(tree):
@@ -120,15 +136,16 @@ def run(tree, script):
 def main():
     missed = []
     with tempfile.TemporaryDirectory() as room:
-        for number, (script, fault) in enumerate([("definitions.py", None), ("promises.py", None), ("habits.py", None)] + FAULTS):
-            tree = Path(room) / str(number)
-            for part in ("crates", "docs", "house"):
-                shutil.copytree(ROOT / part, tree / part, ignore=shutil.ignore_patterns("stdin", "stdout", "__pycache__"))
+        tree = Path(room)
+        for part in ("crates", "docs", "house"):
+            shutil.copytree(ROOT / part, tree / part, ignore=shutil.ignore_patterns("stdin", "stdout", "__pycache__"))
+        asis = [(script, None) for script in ("definitions.py", "promises.py", "habits.py")]
+        for script, fault in asis + FAULTS + asis:  # as it is once more: every fault was taken back
             if fault:
                 fault(tree)
             if (run(tree, script) != 0) != (fault is not None):
                 missed.append(fault.__name__ if fault else f"the tree as it is, {script}")
-            shutil.rmtree(tree)
+            undo()
     if missed:
         print(f"tests.py: not as it should be: {', '.join(missed)}", file=sys.stderr)
         sys.exit(1)

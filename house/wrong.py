@@ -2,7 +2,8 @@
 
 A file round_N.edit holds wrong programs that one check tries together: each changes another function, so each is refused by itself. A file
 definition_NAME.edit changes a definition, contract_NAME.edit a contract, constant_NAME.edit a constant: these stand alone, since what they change
-is used in many functions. Each program is a paragraph:
+is used in many functions. The contract of a function that no other of its crate calls, as a host's entry, is used in its own proof alone: it may be changed
+in a round. Each program is a paragraph:
 
     wrong: NAME: Which wrong program it is, in a sentence.
     refused: FUNCTION at NEED
@@ -29,6 +30,7 @@ class Program:
     def __init__(self, name, sentence):
         self.name, self.sentence = name, sentence
         self.refused, self.changes = [], []
+        self.contract = False  # whether it changes a contract and not code
 
 
 class Edit:
@@ -101,6 +103,18 @@ def folder(file, function):
     return function if module in ("lib", "main") else f"{module}/{function}"
 
 
+def in_contract(text, at):
+    """Whether a place in a source file stands in a function's `requires` or `ensures`."""
+    line = text[text.rfind("\n", 0, at) + 1:]
+    return re.match(r"\s*(?:requires|ensures) \{", line) is not None
+
+
+def is_called(crate, function):
+    """Whether some function of the crate calls one of this name."""
+    name = function.rpartition("/")[2]
+    return any(re.search(rf"(?<!fn )\b{name}\(", path.read_text(encoding="utf-8")) for path in crate.glob("src/**/*.rt"))
+
+
 def cycle_of(crate, place):
     """The folder of a function's proof: that of the cycle of calls that it is in, if it is in one."""
     parent, _, name = place.rpartition("/")
@@ -147,7 +161,9 @@ def check(edit):
             if text.count(old) != 1:
                 raise edit.says(f"{program.name}: its `old:` stands {text.count(old)} times in {file}")
             if file.startswith("src/"):
-                places.add((file, function_at(text, text.find(old) + len(old) - len(old.lstrip()))))
+                at = text.find(old) + len(old) - len(old.lstrip())
+                places.add((file, function_at(text, at)))
+                program.contract = program.contract or in_contract(text, at)
             else:
                 places.add((file, None))
             texts[file] = text.replace(old, new)
@@ -158,6 +174,8 @@ def check(edit):
             if len(functions) != 1 or any(g == "const" for _, g in places):
                 raise edit.says(f"{program.name}: it changes {sorted(functions)} or a constant, and not one function")
             (function,) = functions
+            if program.contract and is_called(crate, function):
+                raise edit.says(f"{program.name}: it changes the contract of {function}, which other functions call: it stands alone, as contract_{program.name}.edit")
             if function in seen:
                 raise edit.says(f"{program.name} and {seen[function]} change the same function, {function}")
             seen[function] = program.name
