@@ -1,5 +1,5 @@
 /* The words of refusals as include/drasumira.h has them: numbers 0 to 40 at five places, each text whole and cut at every room. ./test holds what it writes to
-   what the Rust package's Display says (oracle/link/recorder.rs). */
+   what the Rust package's Display says (oracle/link/refusals.rs). */
 #include "drasumira.h"
 
 #include <stdio.h>
