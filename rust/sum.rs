@@ -21,7 +21,7 @@ pub fn sha256(bytes: &[u8]) -> String {
     padded.push(0x80);
     padded.resize((bytes.len() + 9).next_multiple_of(64) - 8, 0);
     padded.extend((8 * bytes.len() as u64).to_be_bytes());
-    let sum = padded.chunks_exact(64).fold(BEFORE, |sum, block| after(sum, block));
+    let sum = padded.chunks_exact(64).fold(BEFORE, after);
     sum.iter().map(|word| format!("{word:08x}")).collect()
 }
 

@@ -171,9 +171,9 @@ fn objects() {
 #[test]
 fn a_missing_file_and_the_next() {
     let there = file("there.log", b"plain\n");
-    let told = run(&["score", "no/such.log", &there, "rust"], b"");
+    let told = run(&["score", "no/such.log", &there, "src"], b"");
     let row = format!("{there}\t1\t0\t6\tno\t-\t-\t-\n");
-    let err = "drasumira: no/such.log: No such file or directory (os error 2)\ndrasumira: rust: Is a directory (os error 21)\n";
+    let err = "drasumira: no/such.log: No such file or directory (os error 2)\ndrasumira: src: Is a directory (os error 21)\n";
     assert_eq!(told, ran(2, &format!("{HEAD}{row}"), err));
     assert_eq!(run(&["why", "--", "--no-such"], b""), ran(2, "", "drasumira: --no-such: No such file or directory (os error 2)\n"));
 }
