@@ -1,5 +1,6 @@
 #!/usr/bin/env python3
-"""Whether house/definitions.py, promises.py and habits.py notice what they are there for: each fault is put into a copy of the tree, and must be found, and is taken back."""
+"""Whether house/definitions.py, promises.py, habits.py and header.py notice what they are there for: each fault is put into a copy of the tree, must be found, and
+is taken back."""
 import shutil
 import subprocess
 import sys
@@ -109,6 +110,71 @@ def name_of_another(tree):
     changed(tree / "crates/md/src/lib.rt", "pub fn unscored(", "pub fn refuse(")
 
 
+HEADER = "include/drasumira.h"
+
+
+def entry_not_in_the_header(tree):
+    path = tree / "crates/host/src/lib.rt"
+    write(path, path.read_text(encoding="utf-8") + "\n#[no_mangle]\npub extern \"C\" fn drasumira_strange(text: &[u32]) -> HostRead\n{\n    strange(text)\n}\n")
+
+
+def entry_gone(tree):
+    changed(tree / HEADER, "DrasumiraRing drasumira_ring_open(const uint8_t *ring, size_t n);", "")
+
+
+def entry_of_the_header_alone(tree):
+    changed(tree / HEADER, "drasumira_ring_open(", "drasumira_ring_start(")
+
+
+def argument_not_const(tree):
+    changed(tree / HEADER, "drasumira_read(const uint8_t *bytes", "drasumira_read(uint8_t *bytes")
+
+
+def large_answer_by_value(tree):
+    changed(tree / HEADER, "DrasumiraScore *drasumira_close(DrasumiraScore *told, ", "DrasumiraScore drasumira_close(")
+
+
+def declared_otherwise_in_rust(tree):
+    changed(tree / "rust/src/host.rs", "fn drasumira_report(rows: *const u32", "fn drasumira_report(rows: *const u8")
+
+
+def declared_otherwise_in_the_document(tree):
+    changed(tree / "docs/HOST.md", "`HostRead (const uint32_t *rows, size_t n, uint8_t *out", "`HostRead (const uint32_t *rows, size_t n, uint32_t *out")
+
+
+def member_moved(tree):
+    changed(tree / "rust/src/host/why.rs", "    pub detector: u32,\n    pub count: u32,", "    pub count: u32,\n    pub detector: u32,")
+
+
+def member_added(tree):
+    changed(tree / "rust/src/host.rs", "pub counts: [[u32; 3]; 8],", "pub counts: [[u32; 3]; 9],")
+
+
+def offset_not_asserted(tree):
+    changed(tree / HEADER, "DRASUMIRA_AT(DrasumiraScore, fed, 44);\n", "")
+
+
+def size_wrong_in_the_document(tree):
+    changed(tree / "docs/HOST.md", "| HostScore | 148 |", "| HostScore | 152 |")
+
+
+def refusal_without_a_number(tree):
+    changed(tree / "crates/base/src/refusals.rt", "pub const BAD_STATE: u32 = 19;", "pub const BAD_STATE: u32 = 19;\n\npub const STRANGE: u32 = 20;")
+
+
+def refusal_not_in_the_header(tree):
+    refusal_without_a_number(tree)
+    changed(tree / "rust/src/refusal.rs", "pub const BAD_STATE: u32 = 19;", "pub const BAD_STATE: u32 = 19;\n    pub const STRANGE: u32 = 20;")
+
+
+def limit_changed(tree):
+    changed(tree / "crates/base/src/limits.rt", "pub const WORK_PER_POINT: usize = 8;", "pub const WORK_PER_POINT: usize = 9;")
+
+
+def version_of_before(tree):
+    changed(tree / "rust/Cargo.toml", '\nversion = "', '\nversion = "9')
+
+
 FAULTS = [
     ("definitions.py", law_among_definitions),
     ("definitions.py", believed_word_inside),
@@ -126,6 +192,21 @@ FAULTS = [
     ("habits.py", long_line),
     ("habits.py", path_without_name),
     ("habits.py", name_of_another),
+    ("header.py", entry_not_in_the_header),
+    ("header.py", entry_gone),
+    ("header.py", entry_of_the_header_alone),
+    ("header.py", argument_not_const),
+    ("header.py", large_answer_by_value),
+    ("header.py", declared_otherwise_in_rust),
+    ("header.py", declared_otherwise_in_the_document),
+    ("header.py", member_moved),
+    ("header.py", member_added),
+    ("header.py", offset_not_asserted),
+    ("header.py", size_wrong_in_the_document),
+    ("header.py", refusal_without_a_number),
+    ("header.py", refusal_not_in_the_header),
+    ("header.py", limit_changed),
+    ("header.py", version_of_before),
 ]
 
 
@@ -137,9 +218,9 @@ def main():
     missed = []
     with tempfile.TemporaryDirectory() as room:
         tree = Path(room)
-        for part in ("crates", "docs", "house"):
-            shutil.copytree(ROOT / part, tree / part, ignore=shutil.ignore_patterns("stdin", "stdout", "__pycache__"))
-        asis = [(script, None) for script in ("definitions.py", "promises.py", "habits.py")]
+        for part in ("crates", "docs", "house", "include", "rust"):
+            shutil.copytree(ROOT / part, tree / part, symlinks=True, ignore=shutil.ignore_patterns("stdin", "stdout", "__pycache__", "target"))
+        asis = [(script, None) for script in ("definitions.py", "promises.py", "habits.py", "header.py")]
         for script, fault in asis + FAULTS + asis:  # as it is once more: every fault was taken back
             if fault:
                 fault(tree)

@@ -1,73 +1,25 @@
-/* How many bytes of stack each entry of the library takes, its callees among them: `oracle/link/run-x86 oracle/link/stack.c target/staticlib/libhost.a OUT`
-   after `rt staticlib host`. It is also a C host: it declares the entries as docs/HOST.md has them, and asserts the layouts of the answers.
+/* How many bytes of stack each entry of the library takes, its callees among them: `oracle/link/run-x86 oracle/link/stack.c build/library/libhost.a OUT`
+   after `oracle/link/library`. It is also a C host: it calls every entry that include/drasumira.h declares.
    The stack below the caller is painted before a call, and looked through for the first word that is no longer the paint. Tables: no class
    record, no suspicious pair, one language, a page without an unused entry. Texts: small letters; of the second engine a letter and a space in turn, which nests its readers deepest. Rankings: each entry a language of its own.
    Each call must be accepted: the status is 1 where one is refused. */
-typedef unsigned char u8;
-typedef unsigned short u16;
-typedef unsigned int u32;
-typedef unsigned long usize;
-typedef unsigned long u64;
+#include "drasumira.h"
 
-int printf(const char *, ...);
+#include <stdio.h>
 
-typedef struct { u32 number, place, count; } HostRead;
-typedef struct { u32 number, place; float ratios[8], sum; u32 fed, stopped, counts[8][3]; } HostScore;
-typedef struct { u32 taken, refused, number, place; } HostVerdict;
-typedef struct { u32 taken, length, number, place; } HostChosen;
-typedef struct { u32 number, place, count; } HostRanking;
-typedef struct { u32 number, place, head, count; } HostRing;
-typedef struct { u32 number, place, detector, count; } HostReason;
-typedef struct { u32 number, place, flags, range; } HostClass;
-typedef struct { u32 numbers[48]; } HostRunning;
-typedef struct { u32 number, place; HostRunning state; } HostOpened;
-typedef struct { u32 language; float score; } CoherenceMatch;
-
-_Static_assert(sizeof(HostRead) == 12 && sizeof(HostVerdict) == 16 && sizeof(HostChosen) == 16 && sizeof(HostRing) == 16, "by value");
-_Static_assert(sizeof(HostReason) == 16 && sizeof(HostClass) == 16, "by value");
-_Static_assert(sizeof(HostRanking) == 12 && sizeof(CoherenceMatch) == 8, "the ranking's");
-_Static_assert(sizeof(HostScore) == 148 && sizeof(HostOpened) == 200, "through the first pointer");
-_Static_assert(sizeof(HostRunning) == 192, "lent");
-
-#define TABLES const u8 *classes, usize classes_n, const u8 *pairs, usize pairs_n
-HostRead drasumira_check_classes(const u8 *classes, usize classes_n);
-HostRead drasumira_read(const u8 *bytes, usize n, u32 *out, usize room);
-HostRead drasumira_read_page(const u16 *page, usize entries, const u8 *bytes, usize n, u32 *out, usize room);
-HostRead drasumira_write_page(const u16 *page, usize entries, const u32 *text, usize n, u8 *out, usize room);
-HostScore *drasumira_score(HostScore *told, const u32 *text, usize n, float threshold, TABLES);
-HostScore *drasumira_second_score(HostScore *told, const u32 *text, usize n, float threshold, TABLES);
-HostScore *drasumira_score_default(HostScore *told, const u32 *text, usize n, TABLES);
-HostScore *drasumira_score_utf8(HostScore *told, const u8 *text, usize n, float threshold, TABLES);
-HostScore *drasumira_score_utf8_default(HostScore *told, const u8 *text, usize n, TABLES);
-HostRead drasumira_score_lines(const u8 *bytes, usize n, float threshold, TABLES, u32 *out, usize room);
-HostVerdict drasumira_verdict(const u32 *first, usize first_n, const u32 *second, usize second_n, TABLES);
-HostChosen drasumira_choose(const u32 *first, usize first_n, const u32 *second, usize second_n, TABLES);
-HostRanking drasumira_coherence(const u32 *text, usize n, float threshold, u32 small, TABLES, const u8 *languages, usize languages_n,
-    const u32 *included, usize included_n, u32 *work, usize work_n, CoherenceMatch *matches, usize matches_n);
-HostRanking drasumira_coherence_default(const u32 *text, usize n, u32 small, TABLES, const u8 *languages, usize languages_n,
-    const u32 *included, usize included_n, u32 *work, usize work_n, CoherenceMatch *matches, usize matches_n);
-HostRead drasumira_write_utf8(const u32 *text, usize n, u8 *out, usize room);
-HostRanking drasumira_merge(const CoherenceMatch *list, usize list_words, const u32 *lengths, usize rankings, CoherenceMatch *out, usize out_words);
-HostRead drasumira_report(const u32 *rows, usize n, u8 *out, usize room);
-HostOpened *drasumira_open(HostOpened *told, u32 length, float threshold, TABLES);
-HostRead drasumira_feed(HostRunning *state, u32 point, TABLES);
-HostRead drasumira_feed_all(HostRunning *state, const u32 *text, usize n, TABLES);
-HostScore *drasumira_close(HostScore *told, const HostRunning *state);
-HostReason drasumira_reason(const u32 *text, usize n, float threshold, TABLES, u32 *out, usize room);
-HostReason drasumira_reason_utf8(const u8 *bytes, usize n, float threshold, TABLES, u32 *out, usize room);
-HostClass drasumira_class(u32 point, const u8 *classes, usize classes_n);
-HostRing drasumira_ring_open(const u8 *ring, usize n);
-HostRing drasumira_ring_put(u8 *ring, usize n, u32 head, u32 count, u64 line, u32 bits, u32 fed, u32 stopped, u32 refusal);
-HostRing drasumira_ring_flush(const u8 *ring, usize n, u32 head, u32 count, u32 most, u8 *out, usize room);
+typedef uint8_t u8;
+typedef uint16_t u16;
+typedef uint32_t u32;
+typedef size_t usize;
 
 enum { LONGEST = 65536, RANKED = 8192, WORK = 8, RANKINGS = 64, RANKING_LONGEST = 63, MERGED = RANKINGS * RANKING_LONGEST, DEPTH = 1 << 21, SECOND_LONGEST = 4096, SLACK = 256 };
 
 static u32 spaced[SECOND_LONGEST], text[LONGEST], out[LONGEST], work[WORK * RANKED], each[RANKINGS];
 static u8 bytes[LONGEST], back[LONGEST], pairs[32768], language[1032], ring[LONGEST], flushed[LONGEST];
 static u16 page[128];
-static CoherenceMatch matches[1], list[MERGED], merged[MERGED];
-static HostScore told;
-static HostOpened opened;
+static DrasumiraCoherenceMatch matches[1], list[MERGED], merged[MERGED];
+static DrasumiraScore told;
+static DrasumiraOpened opened;
 static usize n;
 static u32 number; /* of the last answer */
 
@@ -133,7 +85,7 @@ int main(void) {
     for (usize i = 0; i < LONGEST; i++) text[i] = bytes[i] = 'a' + i * 7 % 26;
     for (usize i = 0; i < SECOND_LONGEST; i++) spaced[i] = i % 2 ? ' ' : 'a';
     for (usize i = 0; i < 128; i++) page[i] = 0x400 + i;
-    for (usize i = 0; i < MERGED; i++) list[i] = (CoherenceMatch){i, 0.5f};
+    for (usize i = 0; i < MERGED; i++) list[i] = (DrasumiraCoherenceMatch){i, 0.5f};
     language[0] = 1, language[4] = 1, language[8] = 'a';
     for (usize e = 0; e < sizeof entries / sizeof *entries; e++) {
         printf("drasumira_%s", entries[e].name);

@@ -57,7 +57,7 @@ impl Languages {
     ///
     /// Never: the table that this package carries is good, and a test says so.
     pub fn full() -> Languages {
-        let records = include_bytes!("../../tables/languages.bin").to_vec();
+        let records = include_bytes!("../tables/languages.bin").to_vec();
         Languages::new(records).expect("the table that this package carries is good")
     }
 }
@@ -69,7 +69,7 @@ impl Languages {
 /// assert_eq!(drasumira::language_name(0), None);
 /// ```
 pub fn language_name(number: u32) -> Option<&'static str> {
-    let lines = include_str!("../../tables/languages.txt").lines().filter(|line| !line.starts_with('#'));
+    let lines = include_str!("../tables/languages.txt").lines().filter(|line| !line.starts_with('#'));
     let mut fields = lines.map(|line| line.split(' ')).find(|fields| fields.clone().next() == Some(&number.to_string()))?;
     fields.nth(4)
 }

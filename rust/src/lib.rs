@@ -85,8 +85,8 @@ impl Tables {
     ///
     /// Never: the tables that this package carries are good, and a test says so.
     pub fn full() -> Tables {
-        let classes = include_bytes!("../../tables/classes.bin").to_vec();
-        let pairs = include_bytes!("../../tables/pairs.bin").to_vec();
+        let classes = include_bytes!("../tables/classes.bin").to_vec();
+        let pairs = include_bytes!("../tables/pairs.bin").to_vec();
         Tables::new(classes, pairs).expect("the tables that this package carries are good")
     }
 

@@ -57,7 +57,7 @@ impl Page {
     ///
     /// Never: the pages that this package carries are good, and a test says so.
     pub fn windows_1251() -> Page {
-        Page::carried(include_bytes!("../../tables/pages/windows-1251.bin"))
+        Page::carried(include_bytes!("../tables/pages/windows-1251.bin"))
     }
 
     /// Windows-1252, as the WHATWG Encoding Standard has it: every byte is used.
@@ -66,7 +66,7 @@ impl Page {
     ///
     /// Never, as [`Page::windows_1251`].
     pub fn windows_1252() -> Page {
-        Page::carried(include_bytes!("../../tables/pages/windows-1252.bin"))
+        Page::carried(include_bytes!("../tables/pages/windows-1252.bin"))
     }
 
     /// ISO 8859-2, as the WHATWG Encoding Standard has it: every byte is used.
@@ -75,7 +75,7 @@ impl Page {
     ///
     /// Never, as [`Page::windows_1251`].
     pub fn iso_8859_2() -> Page {
-        Page::carried(include_bytes!("../../tables/pages/iso-8859-2.bin"))
+        Page::carried(include_bytes!("../tables/pages/iso-8859-2.bin"))
     }
 
     /// The entries of the bytes 80 to FF.

@@ -18,7 +18,7 @@ struct Ran {
 
 fn command(words: &[&str]) -> Command {
     let mut command = Command::new(env!("CARGO_BIN_EXE_drasumira"));
-    command.args(words).env_remove("NO_COLOR").current_dir(concat!(env!("CARGO_MANIFEST_DIR"), "/.."));
+    command.args(words).env_remove("NO_COLOR").current_dir(env!("CARGO_MANIFEST_DIR"));
     command
 }
 
@@ -56,11 +56,12 @@ fn file(name: &str, bytes: &[u8]) -> String {
 
 #[test]
 fn readme_begins_with_it() {
-    let readme = include_str!("../../README.md");
+    let readme = include_str!("../README.md");
     let shown: Vec<&str> = readme.lines().skip_while(|line| *line != "    $ drasumira why rust/examples/console.log").skip(1).collect();
     let shown: Vec<&str> = shown.into_iter().map_while(|line| line.strip_prefix("    ")).collect();
-    let told = run(&["why", "rust/examples/console.log"], b"");
-    assert_eq!(told.out.lines().collect::<Vec<_>>(), shown);
+    // README's commands are run one folder up
+    let told = run(&["why", "examples/console.log"], b"");
+    assert_eq!(told.out.replace("examples/console.log", "rust/examples/console.log").lines().collect::<Vec<_>>(), shown);
     assert_eq!((told.status, &*told.err), (1, ""));
 }
 
@@ -170,9 +171,9 @@ fn objects() {
 #[test]
 fn a_missing_file_and_the_next() {
     let there = file("there.log", b"plain\n");
-    let told = run(&["score", "no/such.log", &there, "rust"], b"");
+    let told = run(&["score", "no/such.log", &there, "src"], b"");
     let row = format!("{there}\t1\t0\t6\tno\t-\t-\t-\n");
-    let err = "drasumira: no/such.log: No such file or directory (os error 2)\ndrasumira: rust: Is a directory (os error 21)\n";
+    let err = "drasumira: no/such.log: No such file or directory (os error 2)\ndrasumira: src: Is a directory (os error 21)\n";
     assert_eq!(told, ran(2, &format!("{HEAD}{row}"), err));
     assert_eq!(run(&["why", "--", "--no-such"], b""), ran(2, "", "drasumira: --no-such: No such file or directory (os error 2)\n"));
 }
