@@ -1,6 +1,6 @@
 #!/usr/bin/env python3
 """Whether include/drasumira.h is the library's: every entry of crates/host and no other stands in it, declared as rust/src/host* and docs/HOST.md declare it; each struct has
-the members, types and offsets of the Rust declaration and an assertion for each; refusals, limits and the version have the numbers that stand elsewhere.
+the members, types and offsets of the Rust declaration and an assertion for each; refusals, flags, limits and the version have the numbers that stand elsewhere.
 
 What is called HostX in Rust and in HOST.md is called DrasumiraX in the header, and any other X DrasumiraX too. That the header's assertions hold of its own structs a
 compiler says, in the step of ./test that unpacks the package."""
@@ -18,6 +18,7 @@ LISTS_OF_ENTRIES = "drasumira_merge"
 ELSEWHERE = {"NUMBERS_PER_LINE": None, "REFUSAL_ROOM": None}
 # places in a running state: rust/src/host/running.rs
 RUNNING = "RUNNING_"
+FLAG = "FLAG_"
 
 
 def text_of(name):
@@ -190,7 +191,10 @@ def numbers(words):
 
 
 def faults_of_numbers(header, rust):
-    told = {name: int(value) for name, value in header.defines.items() if value.isdigit()}
+    told = {name: int(value, 0) for name, value in header.defines.items() if value[0].isdigit()}
+    flags = {FLAG + name: value for name, value in numbers(text_of("crates/base/src/flags.rt")).items() if name != "FLAGS_END"}
+    if {name: value for name, value in told.items() if name.startswith(FLAG)} != flags:
+        yield "the flags are not those of crates/base"
     refusals = {"ACCEPTED": 0, **numbers(text_of("rust/src/refusal.rs"))}
     if refusals != numbers(text_of("crates/base/src/refusals.rt")):
         yield "the refusals of rust/src/refusal.rs are not those of crates/base"
@@ -202,7 +206,7 @@ def faults_of_numbers(header, rust):
         if told.get(name) != value:
             yield f"DRASUMIRA_{name} is missing, or not {value}"
     for name, value in told.items():
-        if name in refusals or name in ELSEWHERE:
+        if name in refusals or name in flags or name in ELSEWHERE:
             continue
         if name.startswith(RUNNING):
             if rust.constants.get(name.removeprefix(RUNNING)) != str(value):

@@ -171,6 +171,10 @@ def limit_changed(tree):
     changed(tree / "crates/base/src/limits.rt", "pub const WORK_PER_POINT: usize = 8;", "pub const WORK_PER_POINT: usize = 9;")
 
 
+def flag_moved(tree):
+    changed(tree / HEADER, "DRASUMIRA_FLAG_CJK 0x8000\n", "DRASUMIRA_FLAG_CJK 0x800\n")
+
+
 def version_of_before(tree):
     changed(tree / "rust/Cargo.toml", '\nversion = "', '\nversion = "9')
 
@@ -206,6 +210,7 @@ FAULTS = [
     ("header.py", refusal_without_a_number),
     ("header.py", refusal_not_in_the_header),
     ("header.py", limit_changed),
+    ("header.py", flag_moved),
     ("header.py", version_of_before),
 ]
 

@@ -8,7 +8,7 @@
      What has no const is written: it overlaps no other slice of the call. No pointer and no length is checked: they must be true.
    - A text is code points, a uint32_t each. The entries with utf8 in their name, drasumira_read and drasumira_score_lines take UTF-8 bytes.
    - An answer has a number, 0 where the call was accepted and else the refusal's (DRASUMIRA_TOO_LONG and its fellows), and its place, in the
-     units that the refusal says. In a refusal every other member is 0, and nothing that was lent has changed.
+     units that the refusal says. In a refusal every other member is 0, but for which of two texts was refused, and nothing that was lent has changed.
      Of several causes the one that stands first in the entry's comment is told. drasumira_refusal_text has the words.
    - An answer of more than 16 bytes is written through the first argument, told, which is never NULL and is returned.
    - classes, pairs and languages are the bytes of tables/classes.bin, pairs.bin and languages.bin, or a table of the host's own in the same form. They are
@@ -225,13 +225,39 @@ typedef struct DrasumiraReason {
     uint32_t count;
 } DrasumiraReason;
 
-/* What a code point is: flags, bit 0 to 24 (docs/HOST.md), and the number of its range, 0 for none. */
+/* What a code point is: its flags, and the number of its range (tables/ranges.txt), 0 for none. */
 typedef struct DrasumiraClass {
     uint32_t number;
     uint32_t place;
     uint32_t flags;
     uint32_t range;
 } DrasumiraClass;
+/* Bits 0 to 23 are the crate's, ALPHABETIC among them, which the detectors read; CHAR_ALPHABETIC is Rust's char::is_alphabetic, by which a ranking takes letters. */
+#define DRASUMIRA_FLAG_WHITESPACE 0x1
+#define DRASUMIRA_FLAG_UNPRINTABLE 0x2
+#define DRASUMIRA_FLAG_SYMBOL 0x4
+#define DRASUMIRA_FLAG_EMOTICON 0x8
+#define DRASUMIRA_FLAG_COMMON_SAFE 0x10
+#define DRASUMIRA_FLAG_WEIRD_SAFE 0x20
+#define DRASUMIRA_FLAG_PUNCTUATION 0x40
+#define DRASUMIRA_FLAG_SEPARATOR 0x80
+#define DRASUMIRA_FLAG_ASCII 0x100
+#define DRASUMIRA_FLAG_ASCII_ALPHABETIC 0x200
+#define DRASUMIRA_FLAG_ASCII_GRAPHIC 0x400
+#define DRASUMIRA_FLAG_ASCII_DIGIT 0x800
+#define DRASUMIRA_FLAG_LATIN 0x1000
+#define DRASUMIRA_FLAG_ALPHABETIC 0x2000
+#define DRASUMIRA_FLAG_ACCENTUATED 0x4000
+#define DRASUMIRA_FLAG_CJK 0x8000
+#define DRASUMIRA_FLAG_HANGUL 0x10000
+#define DRASUMIRA_FLAG_KATAKANA 0x20000
+#define DRASUMIRA_FLAG_HIRAGANA 0x40000
+#define DRASUMIRA_FLAG_THAI 0x80000
+#define DRASUMIRA_FLAG_CASE_VARIABLE 0x100000
+#define DRASUMIRA_FLAG_LOWERCASE 0x200000
+#define DRASUMIRA_FLAG_UPPERCASE 0x400000
+#define DRASUMIRA_FLAG_NUMERIC 0x800000
+#define DRASUMIRA_FLAG_CHAR_ALPHABETIC 0x1000000
 
 /* A line under way, which the host keeps and lends. docs/HOST.md names the 48 numbers; some of them stand at the places below. */
 typedef struct DrasumiraRunning {
@@ -438,7 +464,8 @@ DrasumiraRanking drasumira_coherence_default(const uint32_t *text, size_t n, uin
 DrasumiraRanking drasumira_merge(const DrasumiraCoherenceMatch *list, size_t list_words, const uint32_t *lengths, size_t rankings,
     DrasumiraCoherenceMatch *out, size_t out_words);
 
-/* ---- the verdict ring: records of 32 bytes in lent memory. The host keeps head and count of the last answer whose number was 0 */
+/* ---- the verdict ring: records in lent memory. The host keeps head and count of the last answer whose number was 0. A record is 32 bytes, little-endian: 0 the line's
+   number, 8 bytes; 8 the bits of its sum; 12 the characters fed; 16 stopped; 20 the refusal's number; 24 zeros, 8 bytes */
 
 /* An empty ring over these n bytes. Refusals: 15. */
 DrasumiraRing drasumira_ring_open(const uint8_t *ring, size_t n);
