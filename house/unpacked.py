@@ -1,6 +1,6 @@
 #!/usr/bin/env python3
 """Whether an engineer without the kit can use the package: ./package is run twice and must give the same bytes; the package is unpacked in an empty folder outside the
-repository, with `rt` off the path; the commands of README's part "The package" are run there and must write what stands under them; the header compiles as C99, C11 and C++;
+repository, with `rt` off the path; the commands of README's part "The package" are run there and must write what stands under them; header and example compile as C99, C11 and C++ without a warning;
 C and Rust word each refusal alike; what `cargo package` packs of rust/ is unpacked by itself, and a quick part of its tests passes; and a missing, foreign, damaged or
 older archive and a damaged table each give a message that says what to do. Status 3, with a line that says why, where cargo or a C compiler is missing."""
 import os
@@ -100,10 +100,9 @@ def follow(commands, where, env):
         need(int(status) <= 1 and out.rstrip("\n").split("\n") == (wanted or [""]), f"README: $ {command}: writes {out!r}, status {status}; {said.stderr.strip()[-300:]}")
 
 
-def headers(package, env, room):
-    source = room / "header.c"
-    source.write_text('#include "drasumira.h"\nint main(void) { return 0; }\n')
-    strict = ["-Wall", "-Wextra", "-Wpedantic", "-Werror", "-I", package / "include", "-c", source, "-o", room / "header.o"]
+def standards(package, env, room):
+    """The header and the example, by the standards that they are written for."""
+    strict = ["-Wall", "-Wextra", "-Wpedantic", "-Werror", "-I", package / "include", "-c", package / "c/lines.c", "-o", room / "lines.o"]
     tried = [["cc", "-std=c99"], ["cc", "-std=c11"]]
     if shutil.which("c++", path=env["PATH"]):
         tried += [["c++", "-x", "c++", "-std=c++11"], ["c++", "-x", "c++", "-std=c++17"]]
@@ -203,7 +202,7 @@ def main():
                 follow(group, user if title == "" else package, env)
                 commands += len(group)
             need(commands >= 8, f"README's part has {commands} commands")
-            compilers, words = headers(package, env, room), refusals(package, env, room)
+            compilers, words = standards(package, env, room), refusals(package, env, room)
             tests = packed_by_cargo(package, env, room)
             need(tests >= 20, f"of the packed tests {tests} pass")
             messages = damages(package, env, room)
