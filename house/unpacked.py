@@ -172,6 +172,7 @@ def damages(package, env, room):
     with_bytes(table, flipped, "a damaged table", r"classes.bin is damaged, its sum is not the one in tables/classes.sha256: unpack the package again")
     with_bytes(table, None, "a missing table", r"classes.bin is missing: unpack the package again")
     says("a directory without the archive", f"there is no library to link, .* is missing: {wanted}", DRASUMIRA_LIB_DIR=str(room))
+    says("a directory that is not absolute", "DRASUMIRA_LIB_DIR must be an absolute path, and is 'lib'", DRASUMIRA_LIB_DIR="lib")
     # and the directory that is named is enough
     shutil.move(rust / "lib", room / "lib")
     done(["cargo", "build", "--offline", "--lib"], rust, {**env, "DRASUMIRA_LIB_DIR": str(room / "lib")})
@@ -182,7 +183,7 @@ def damages(package, env, room):
     need(said.returncode == 2 and "sha256sum -c PACKAGE.txt" in said.stderr and "refusal 5: the class table is not good" in said.stderr, f"c/lines.c over a damaged table says {said.stderr}")
     said = run(["sha256sum", "-c", "--quiet", "PACKAGE.txt"], package, env)
     need(said.returncode != 0 and "tables/classes.bin: FAILED" in said.stdout, "PACKAGE.txt does not tell the damaged table")
-    return 9
+    return 10
 
 
 def main():

@@ -166,8 +166,11 @@ fn main() {
     check_target();
     check_tables(&here);
     let repository = here.parent().filter(|root| root.join("crates.txt").exists() && root.join("crates/host/src/lib.rt").exists());
-    let (archive, proof) = match (std::env::var_os(NAMED), repository) {
-        (Some(dir), _) => packaged(Path::new(&dir)),
+    let named = std::env::var_os(NAMED).filter(|dir| !dir.is_empty()).map(PathBuf::from);
+    let (archive, proof) = match (named, repository) {
+        // this script runs in its own folder, and not where cargo was called
+        (Some(dir), _) if !dir.is_absolute() => stop(&format!("{NAMED} must be an absolute path, and is '{}'", dir.display())),
+        (Some(dir), _) => packaged(&dir),
         (None, Some(root)) => proved(root),
         (None, None) => packaged(&here.join("lib")),
     };
