@@ -208,7 +208,8 @@ def main():
             need(tests >= 20, f"of the packed tests {tests} pass")
             messages = damages(package, env, room)
         except Failed as fault:
-            print(f"unpacked.py: {fault}", file=sys.stderr)
+            # one line: ./test shows the last
+            print(f"unpacked.py: {' '.join(str(fault).split())}", file=sys.stderr)
             sys.exit(1)
     print(f"{made.stat().st_size} bytes, twice the same; without rt {commands} commands of README, the header by {compilers} standards, {words} refusals in C as in Rust, {tests} tests of the packed crate, {messages} damages told")
 
