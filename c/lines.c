@@ -8,8 +8,6 @@
 #include <stdio.h>
 #include <stdlib.h>
 
-#define DEFAULT_THRESHOLD 0.15f
-
 typedef struct {
     uint8_t *bytes;
     size_t n;
@@ -51,7 +49,7 @@ static size_t count_lines(Bytes file) {
 
 int main(int argc, char **argv) {
     char words[DRASUMIRA_REFUSAL_ROOM], *end = NULL;
-    float threshold = DEFAULT_THRESHOLD;
+    float threshold = DRASUMIRA_DEFAULT_THRESHOLD;
     Bytes classes, pairs, file;
     DrasumiraScore *scores;
     DrasumiraRead told;

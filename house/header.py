@@ -1,6 +1,6 @@
 #!/usr/bin/env python3
 """Whether include/drasumira.h is the library's: every entry of crates/host and no other stands in it, declared as rust/src/host* and docs/HOST.md declare it; each struct has
-the members, types and offsets of the Rust declaration and an assertion for each; refusals, flags, limits and the version have the numbers that stand elsewhere.
+the members, types and offsets of the Rust declaration and an assertion for each; refusals, flags, limits, thresholds and the version have the numbers that stand elsewhere.
 
 What is called HostX in Rust and in HOST.md is called DrasumiraX in the header, and any other X DrasumiraX too. That the header's assertions hold of its own structs a
 compiler says, in the step of ./test that unpacks the package."""
@@ -191,7 +191,7 @@ def numbers(words):
 
 
 def faults_of_numbers(header, rust):
-    told = {name: int(value, 0) for name, value in header.defines.items() if value[0].isdigit()}
+    told = {name: int(value, 0) for name, value in header.defines.items() if re.fullmatch(r"0x[0-9A-F]+|\d+", value)}
     flags = {FLAG + name: value for name, value in numbers(text_of("crates/base/src/flags.rt")).items() if name != "FLAGS_END"}
     if {name: value for name, value in told.items() if name.startswith(FLAG)} != flags:
         yield "the flags are not those of crates/base"
@@ -213,6 +213,10 @@ def faults_of_numbers(header, rust):
                 yield f"DRASUMIRA_{name} is not as in rust/src/host/running.rs"
         elif limits.get(name) != {value}:
             yield f"DRASUMIRA_{name} is {value}, and in crates/ {sorted(limits.get(name, []))}"
+    thresholds = dict(re.findall(r"const (\w+): f32 = ([\d.]+|[A-Z_]+);", text_of("rust/src/lib.rs")))
+    for name, value in thresholds.items():
+        if header.defines.get(name) != (f"DRASUMIRA_{value}" if value in thresholds else f"{value}f"):
+            yield f"DRASUMIRA_{name} is not {value}, as in rust/src/lib.rs"
     if told.get("NUMBERS_PER_LINE") != header.sizes["DrasumiraScore"] // 4:
         yield "DRASUMIRA_NUMBERS_PER_LINE is not the numbers of a DrasumiraScore"
     version = re.search(r'^version = "(.*)"$', text_of("rust/Cargo.toml"), re.M)[1]

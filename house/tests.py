@@ -175,6 +175,10 @@ def flag_moved(tree):
     changed(tree / HEADER, "DRASUMIRA_FLAG_CJK 0x8000\n", "DRASUMIRA_FLAG_CJK 0x800\n")
 
 
+def threshold_of_before(tree):
+    changed(tree / "rust/src/lib.rs", "pub const NEW_ROOMS: f32 = 0.15;", "pub const NEW_ROOMS: f32 = 0.2;")
+
+
 def version_of_before(tree):
     changed(tree / "rust/Cargo.toml", '\nversion = "', '\nversion = "9')
 
@@ -211,6 +215,7 @@ FAULTS = [
     ("header.py", refusal_not_in_the_header),
     ("header.py", limit_changed),
     ("header.py", flag_moved),
+    ("header.py", threshold_of_before),
     ("header.py", version_of_before),
 ]
 

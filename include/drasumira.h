@@ -141,6 +141,12 @@ static inline size_t drasumira_refusal_text(uint32_t number, uint32_t place, cha
 #define DRASUMIRA_LONGEST_RANKING 63      /* entries of each of them */
 #define DRASUMIRA_DETECTORS 8
 
+/* ---- thresholds */
+
+#define DRASUMIRA_NEW_ROOMS 0.15f  /* that of the new rooms */
+#define DRASUMIRA_SUMMER_RULE 0.2f /* that of the summer rule and of the export desk; the crate has it as its default */
+#define DRASUMIRA_DEFAULT_THRESHOLD DRASUMIRA_NEW_ROOMS /* of the entries without a threshold, but for a ranking, where it is 0.1 */
+
 /* ---- what crosses: every member is 4 bytes, and there is no padding */
 
 /* Of reading, writing, checking, feeding, reporting and many lines: how many there are, of what the entry says. */
@@ -382,7 +388,7 @@ DrasumiraRead drasumira_write_page(const uint16_t *page, size_t entries, const u
 DrasumiraScore *drasumira_score(DrasumiraScore *told, const uint32_t *text, size_t n, float threshold,
     const uint8_t *classes, size_t classes_n, const uint8_t *pairs, size_t pairs_n);
 
-/* The same at the threshold 0.15. Refusals: 1, 5, 7, 6. */
+/* The same at DRASUMIRA_DEFAULT_THRESHOLD. Refusals: 1, 5, 7, 6. */
 DrasumiraScore *drasumira_score_default(DrasumiraScore *told, const uint32_t *text, size_t n,
     const uint8_t *classes, size_t classes_n, const uint8_t *pairs, size_t pairs_n);
 
@@ -394,7 +400,7 @@ DrasumiraScore *drasumira_second_score(DrasumiraScore *told, const uint32_t *tex
 DrasumiraScore *drasumira_score_utf8(DrasumiraScore *told, const uint8_t *text, size_t n, float threshold,
     const uint8_t *classes, size_t classes_n, const uint8_t *pairs, size_t pairs_n);
 
-/* The same at the threshold 0.15. Refusals: 1, 2, 1, 5, 7, 6. */
+/* The same at DRASUMIRA_DEFAULT_THRESHOLD. Refusals: 1, 2, 1, 5, 7, 6. */
 DrasumiraScore *drasumira_score_utf8_default(DrasumiraScore *told, const uint8_t *text, size_t n,
     const uint8_t *classes, size_t classes_n, const uint8_t *pairs, size_t pairs_n);
 
