@@ -1,11 +1,12 @@
 // The lines of a log, scored and nothing else: the oracle line by line, and the library in bursts of the command's size, in turns and in one thread. Both by
-// the default threshold, as the command scores them.
+// the library's default threshold, as the command scores them.
 use crate::{library, now};
+use drasumira::{DEFAULT_THRESHOLD, NUMBERS_PER_LINE};
 use library::Lent;
 use oracle::open::Opened;
+use ordered_float::OrderedFloat;
 use std::hint::black_box;
 
-const NUMBERS_PER_LINE: usize = 13;
 const BURST: usize = 262_144;
 const TURNS: usize = 3;
 
@@ -31,7 +32,7 @@ pub fn table(log: &[u8], lent: &Lent) {
 
 fn oracle_scores(line: &str) {
     let mut opened = Opened::default();
-    black_box(oracle::md::mess_ratio(black_box(line).to_string(), None, &mut opened));
+    black_box(oracle::md::mess_ratio(black_box(line).to_string(), Some(OrderedFloat(DEFAULT_THRESHOLD)), &mut opened));
 }
 
 fn library_scores(log: &[u8], lent: &Lent, rows: &mut [u32]) {
@@ -39,7 +40,7 @@ fn library_scores(log: &[u8], lent: &Lent, rows: &mut [u32]) {
     while !rest.is_empty() {
         let end = rest.len().min(BURST);
         let cut = rest[..end].iter().rposition(|b| *b == b'\n').map_or(end, |at| at + 1);
-        let told = library::score_lines(black_box(&rest[..cut]), drasumira::DEFAULT_THRESHOLD, lent, rows);
+        let told = library::score_lines(black_box(&rest[..cut]), DEFAULT_THRESHOLD, lent, rows);
         assert_eq!(black_box(told).number, 0);
         rest = &rest[cut..];
     }
