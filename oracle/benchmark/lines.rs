@@ -1,6 +1,7 @@
 // A burst of lines of 80 characters: the oracle line by line, and the library in one call of drasumira_score_lines, whose output holds the
 // scores of all of them. The lines' ends are found by the library; the oracle is handed each line.
 use crate::{NEVER, Subject, library, nanoseconds};
+use drasumira::NUMBERS_PER_LINE;
 use library::Lent;
 use oracle::open::Opened;
 use ordered_float::OrderedFloat;
@@ -9,7 +10,6 @@ use std::hint::black_box;
 
 const LINE: usize = 80;
 const LINES: usize = 1_000;
-const NUMBERS_PER_LINE: usize = 13;
 
 pub struct Burst {
     lines: Vec<String>,

@@ -8,6 +8,7 @@ mod coherence;
 #[allow(dead_code)]
 mod library;
 mod lines;
+mod log;
 mod merge;
 mod pages;
 mod ring;
@@ -132,7 +133,7 @@ fn table(all: &Lent, none: &Lent) {
 fn main() {
     let words: Vec<String> = std::env::args().skip(1).collect();
     let words: Vec<&str> = words.iter().map(String::as_str).collect();
-    let usage = "usage: benchmark TABLES [ring | pages | writing | merge | coherence [SIDE NAME LENGTH CALLS] | SIDE NAME LENGTH all|none CALLS]";
+    let usage = "usage: benchmark TABLES [ring | pages | writing | merge | log FILE | coherence [SIDE NAME LENGTH CALLS] | SIDE NAME LENGTH all|none CALLS]";
     let dir = words.first().expect(usage);
     let file = |name: &str| std::fs::read(format!("{dir}/{name}.bin")).expect(name);
     let (classes, pairs) = (file("classes"), file("pairs"));
@@ -144,6 +145,7 @@ fn main() {
         ["pages"] => pages::table(dir),
         ["writing"] => writing::table(),
         ["merge"] => merge::table(),
+        ["log", name] => log::table(&std::fs::read(name).expect(name), &all),
         ["coherence", side, name, n, calls] => {
             coherence::calls(&rankings, side, name, n.parse().expect("a length"), calls.parse().expect("a number of calls"))
         }

@@ -134,6 +134,33 @@ fn marks_beside_wide_combining_and_right_to_left() {
 }
 
 #[test]
+fn what_a_character_is() {
+    let text = "a!? ;:.,%$ ((((((( §§§ ++\nééééé èèèè àààà ùùùù\n日本。。 あア한ไ\n";
+    let words = "-:1: noise: score 0.3846154, threshold 0.15; symbols and punctuation: 10 of 26
+    a[!?] ;:[.],[%$] [(](((((( [§]§§ [+]+
+    U+0021 once, punctuation: !
+    U+003F once, punctuation: ?
+    U+002E once, punctuation: .
+    U+0025 once, punctuation: %
+    U+0024 once, symbol: $
+    U+0028 once, punctuation: (
+    U+00A7 once, punctuation: §
+    U+002B once, symbol: +
+-:2: noise: score 2.647059, threshold 0.15; doubled accents: 28 of 17
+    é[éééé] [èèèè] à[ààà] ù[ùùù]
+    U+00E9 4 times, accented letter: é
+    U+00E8 4 times, accented letter: è
+    U+00E0 3 times, accented letter: à
+    U+00F9 3 times, accented letter: ù
+-:3: noise: score 0.4, threshold 0.15; suspicious neighbours: 4 of 10
+    日本。。 あア[한ไ]
+    U+D55C once, Hangul: 한
+    U+0E44 once, Thai: ไ
+";
+    assert_eq!(run(&["why"], text.as_bytes()), ran(1, words, ""));
+}
+
+#[test]
 fn nothing_raw() {
     // every control character, what turns the direction, what has no width, what is not assigned
     let points = (0..0x20).chain(0x7F..0xA1).chain([0xAD, 0x61C, 0x180E]).chain(0x200B..0x2010).chain(0x2028..0x202F).chain(0x2060..0x2070);
@@ -176,6 +203,35 @@ fn a_missing_file_and_the_next() {
     let err = "drasumira: no/such.log: No such file or directory (os error 2)\ndrasumira: src: Is a directory (os error 21)\n";
     assert_eq!(told, ran(2, &format!("{HEAD}{row}"), err));
     assert_eq!(run(&["why", "--", "--no-such"], b""), ran(2, "", "drasumira: --no-such: No such file or directory (os error 2)\n"));
+    // a name is not written raw either, and every command goes on
+    let raw = "drasumira: no/\\u{1B}[2J: No such file or directory (os error 2)\n";
+    for (words, out) in [
+        (&["why", "no/\u{1B}[2J", &*there][..], "".to_string()),
+        (&["languages", "no/\u{1B}[2J", &there], format!("{there}: lines 1 to 1, all of it: 6 characters\n  no language found\n")),
+        (
+            &["compare", "--page", "utf-8", "--page", "utf-8", "no/\u{1B}[2J", &there],
+            format!("file\tline\tpage\ttext\n{there}\t1\tutf-8\tplain\n"),
+        ),
+        (&["report", "no/\u{1B}[2J", &there], format!("{}lines 1\naccepted 1\nrefused 0\n", empty_bins())),
+    ] {
+        assert_eq!(run(words, b""), ran(2, &out, raw));
+    }
+}
+
+// The report's bins of one line that no detector finds anything in.
+fn empty_bins() -> String {
+    let mut month = Report::new();
+    month.add(&score("plain", None, &Tables::full())).unwrap();
+    month.to_string().trim_end_matches("lines 1\naccepted 1\nrefused 0\n").to_string()
+}
+
+#[test]
+fn files_and_standard_input() {
+    // line numbers begin anew in each; a file without a newline at its end does not run into the next
+    let name = file("one.log", b"plain\nab");
+    let told = run(&["score", &name, "-", &name], b"a");
+    let rows = |name: &str| format!("{name}\t1\t0\t6\tno\t-\t-\t-\n{name}\t2\t0\t3\tno\t-\t-\t-\n");
+    assert_eq!(told, ran(0, &format!("{HEAD}{}-\t1\t0\t2\tno\t-\t-\t-\n{}", rows(&name), rows(&name)), ""));
 }
 
 #[test]
@@ -225,7 +281,7 @@ fn lines_that_end_in_a_return() {
         .map(|(line, n)| row("-", n, &score(*line, None, &tables), line.as_bytes(), &tables))
         .collect();
     let note = "drasumira: lines end in U+000D before their newline: it is scored as a character of its line, as the library scores it\n";
-    assert_eq!(told, ran(told.status, &format!("{HEAD}{rows}"), note));
+    assert_eq!(told, ran(0, &format!("{HEAD}{rows}"), note));
 }
 
 // The row of a line, written a second time. Which detector is named is what `why_into` says of the text.
@@ -288,6 +344,21 @@ fn lines_at_each_limit() {
     assert!(rows[0].starts_with("-\t1\t0\t65537\tno\t"));
     assert_eq!(rows[1], refused(2, "over 65,536 bytes"));
     assert_eq!((rows[2], rows.len()), ("-\t3\t0\t6\tno\t-\t-\t-", 3));
+    // and in the other commands
+    let (text, hint) = (format!("{points}\n{points}a\nplain"), "; try it split into shorter lines\n");
+    assert_eq!(run(&["why"], text.as_bytes()), ran(2, &format!("-:2: refused: {long}{hint}"), ""));
+    let told = run(&["languages"], text.as_bytes());
+    assert_eq!((told.status, told.err), (2, format!("drasumira: -:2: left out: {long}{hint}")));
+    assert!(
+        told.out.starts_with("-: lines 1 to 3 without the 1 left out: 65,543 characters, in 9 pieces whose rankings are merged\n"),
+        "{}",
+        told.out
+    );
+    let told = run(&["compare", "--page", "utf-8", "--page", "windows-1252"], text.as_bytes());
+    let rows: Vec<&str> = told.out.lines().collect();
+    assert_eq!((told.status, rows.len(), rows[1]), (2, 4, &*format!("-\t1\tutf-8\t{points}")));
+    assert_eq!(rows[2], format!("-\t2\t-\trefused as utf-8: {long}{}", hint.trim_end()));
+    assert!(run(&["report"], text.as_bytes()).out.ends_with("lines 3\naccepted 2\nrefused 1\n"));
 }
 
 #[test]
@@ -304,6 +375,30 @@ fn bytes_of_a_page() {
     let read = Page::windows_1252().read(&bytes).unwrap();
     let marked: String = wrong.out.lines().nth(1).unwrap().trim_start().chars().filter(|c| !matches!(c, '[' | ']')).collect();
     assert_eq!(marked, read);
+}
+
+#[test]
+fn every_page() {
+    let tables = Tables::full();
+    let pages = [("windows-1251", Page::windows_1251()), ("windows-1252", Page::windows_1252()), ("iso-8859-2", Page::iso_8859_2())];
+    // every byte of a page but the newline, in lines of sixteen: those that stand for nothing are refused, the others scored as the library scores them
+    let lines: Vec<Vec<u8>> = (0..16).map(|row| (16 * row..=16 * row + 15).filter(|b| *b != b'\n').collect()).collect();
+    for (name, page) in pages {
+        let told = run(&["score", "--page", name], &lines.join(&b'\n'));
+        for ((at, line), row) in lines.iter().enumerate().zip(told.out.lines().skip(1)) {
+            let wanted = match page.score(line, None, &tables) {
+                Ok(score) => format!("-\t{}\t{}\t{}\t", at + 1, score.sum, score.fed),
+                Err(refusal) => {
+                    let words = format!("byte {}, counted from 0, stands for nothing in {name}; try another --page", refusal.place);
+                    format!("-\t{}\t-\t-\t-\trefused: {words}\t-\t-", at + 1)
+                }
+            };
+            assert!(row.starts_with(&wanted), "{row}");
+        }
+        let refused = lines.iter().any(|line| page.read(line).is_err());
+        assert_eq!((told.out.lines().count(), told.status, &*told.err), (17, if refused { 2 } else { 1 }, ""));
+    }
+    assert_eq!(run(&["score", "--page", "utf-8"], "é\n".as_bytes()), run(&["score"], "é\n".as_bytes()));
 }
 
 #[test]
@@ -465,8 +560,26 @@ fn languages_of_a_file() {
     let err = format!("drasumira: -:1: left out: not UTF-8 at byte 2, counted from 0; {hint}\n");
     assert_eq!(
         told,
-        ran(2, "{\"file\":\"-\",\"first\":1,\"last\":1,\"whole\":true,\"characters\":0,\"pieces\":0,\"languages\":[]}\n", &err)
+        ran(
+            2,
+            "{\"file\":\"-\",\"first\":1,\"last\":1,\"whole\":true,\"left_out\":1,\"characters\":0,\"pieces\":0,\"languages\":[]}\n",
+            &err
+        )
     );
+    // a line for which there are not enough pieces left is not begun: 63 are full, and the next line wants two
+    let text = format!("{}{}\n{greek}", greek.repeat(63 * lines), "a".repeat(8_192));
+    let told = run(&["languages"], text.as_bytes());
+    let head =
+        format!("-: lines 1 to {} ranked, and the rest not: {} characters, ", 63 * lines, commas(63 * lines * greek.chars().count()));
+    assert!(told.out.starts_with(&format!("{head}in 63 pieces whose rankings are merged\n")), "{}", told.out);
+    // by a page, and from another score on
+    let polish = "Pociąg czeka przed semaforem, ponieważ zwrotnica przy wjeździe na stację nie została jeszcze przestawiona\n";
+    let bytes = Page::iso_8859_2().write(polish).unwrap();
+    let told = run(&["languages", "--page", "iso-8859-2", "--threshold", "0.7"], &bytes);
+    let ranking = coherence(polish, Some(0.7), TOO_SMALL_SEQUENCE, &tables, &languages, &[]).unwrap();
+    assert!(!ranking.is_empty() && ranking.len() < ranked(polish).len());
+    let head = format!("-: lines 1 to 1, all of it: {} characters\n", polish.chars().count());
+    assert_eq!(told, ran(0, &format!("{head}{}", list(&ranking)), ""));
 }
 
 fn commas(number: usize) -> String {
@@ -490,16 +603,37 @@ fn a_report_of_all_files() {
     let told = run(&["report", "--json", "-"], b"\x01\n");
     let bins: String = month_of(b"\x01\n", &tables);
     assert_eq!(told, ran(1, &format!("{bins}{{\"lines\":1,\"accepted\":1,\"refused\":0}}\n"), ""));
-    // and the page for a browser: eight histograms, the totals, the cause; nothing from elsewhere
-    let page = file("page.html", b"");
-    assert_eq!(run(&["report", "--html", &page, &first, &second], b"").status, 2);
-    let page = std::fs::read_to_string(page).unwrap();
-    assert_eq!((page.matches("<svg").count(), page.matches("<script").count(), page.matches("http").count()), (8, 0, 0));
-    assert!(page.contains("first &lt;a&gt;.log, ") && page.contains("<tr><td>lines<td>5\n<tr><td>accepted<td>4\n<tr><td>refused<td>1\n"));
-    assert!(page.contains("<tr><td>not utf-8<td>1\n"));
-    // 8 times 2 of 3 characters: bin 341 of unprintable characters
-    assert!(page.contains("<b>unprintable characters</b>: 3 lines with nothing, 1 with something"));
-    assert!(page.contains("<rect x=\"341\" y=\"0\" width=\"1\" height=\"100\"><title>from 5.328125: 1 lines</title></rect>"));
+}
+
+#[test]
+fn a_page_for_a_browser() {
+    // two lines of noise, one of them all unprintable, so that its scan stops at a ratio of 8; two refused, for two causes
+    let text = [b"plain\n\x01\x02\n\xFF\nd\xC3\xA9j\xC3\xA0 vu\n", &b"\x01".repeat(40)[..], b"\n", &b"a".repeat(65_537)].concat();
+    let (first, second, page) = (file("shift <b>.log", &text), file("other.log", b"more"), file("page.html", b""));
+    let page_of = |words: &[&str], status: i32| {
+        assert_eq!(run(&[&["report", "--html", &page], words].concat(), b"").status, status);
+        std::fs::read_to_string(&page).unwrap()
+    };
+    let told = page_of(&[&first, &second], 2);
+    // eight histograms, the totals, each cause; nothing from elsewhere
+    assert_eq!((told.matches("<svg").count(), told.matches("<script").count(), told.matches("http").count()), (8, 0, 0));
+    assert!(told.contains("shift &lt;b&gt;.log, "));
+    let totals = "<tr><td>lines<td>7\n<tr><td>accepted<td>5\n<tr><td>noise: a score of 0.15 or above<td>2\n<tr><td>refused<td>2\n";
+    assert!(told.contains(&format!("<table>\n{totals}</table>\n")));
+    assert!(told.contains("<h2>Refused lines by cause</h2>\n<table>\n<tr><td>too long<td>1\n<tr><td>not utf-8<td>1\n</table>\n"));
+    // 8 times 2 of 3 characters: bin 341 of unprintable characters; the last bin is 512
+    assert!(told.contains("<b>unprintable characters</b>: 3 lines with nothing, 2 with something; the highest bar is 1 line<"));
+    assert!(told.contains("<rect x=\"341\" y=\"0\" width=\"1\" height=\"100\"><title>from 5.328125 to 5.34375: 1 line</title></rect>"));
+    assert!(
+        told.contains("<svg viewBox=\"0 0 513 100\"")
+            && told.contains("<rect x=\"512\" y=\"0\" width=\"1\" height=\"100\"><title>8 and above: 1 line<")
+    );
+    assert!(told.contains("<b>CJK stops</b>: 5 lines with nothing, 0 with something</figcaption>\n<svg class=\"none\""));
+    // the noise is that of the threshold; nothing refused, nothing told of it; nothing at all
+    let told = page_of(&["--threshold", "6", &second, &file("noisy.log", b"\x01\x02\n")], 0);
+    assert!(told.contains("<tr><td>noise: a score of 6 or above<td>0\n") && !told.contains("by cause"));
+    let told = page_of(&[], 0);
+    assert!(told.contains("<p>standard input</p>\n<table>\n<tr><td>lines<td>0\n") && told.matches("<svg class=\"none\"").count() == 8);
     let told = run(&["report", "--html", "no/such/page.html"], b"");
     assert_eq!(told, ran(2, "lines 0\naccepted 0\nrefused 0\n", "drasumira: no/such/page.html: No such file or directory (os error 2)\n"));
 }

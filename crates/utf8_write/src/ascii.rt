@@ -1,4 +1,4 @@
-// Runs of ASCII code points, passed eight at a time, and their copy as bytes. The reader has the same over bytes.
+// Whole eights of ASCII code points, and their copy as bytes. The reader passes the same over bytes.
 use crate::sequence::as_byte;
 ghost use mathlib.Core.Path.{_≡_};
 ghost use Prim.Native.Nat.{_+_, _≤_};
@@ -23,7 +23,7 @@ fn eight_ascii(text: &[u32], i: usize) -> bool
 }
 
 // Past whole eights of ASCII code points from i on.
-fn past_eights(text: &[u32], i: usize) -> usize
+pub fn past_eights(text: &[u32], i: usize) -> usize
     requires { ⌜ i ≤ length (now text) ⌝ }
     ensures { λ r. ⌜ AsciiRun (now (text .entry)) i r ⌝ }
 {
@@ -35,35 +35,6 @@ fn past_eights(text: &[u32], i: usize) -> usize
         j += 8;
     }
     j
-}
-
-// Past single ASCII code points from i on.
-fn past_ones(text: &[u32], i: usize) -> usize
-    requires { ⌜ i ≤ length (now text) ⌝ }
-    ensures { λ r. ⌜ AsciiRun (now (text .entry)) i r ⌝ }
-{
-    let mut j = i;
-    while j < text.len() {
-        if 0x80 <= text[j] {
-            return j;
-        }
-        j += 1;
-    }
-    j
-}
-
-// Past the ASCII code points from i on. The first is tested by itself: in most scripts a space stands alone.
-pub fn past_ascii(text: &[u32], i: usize) -> usize
-    requires { ⌜ i ≤ length (now text) ⌝ }
-    ensures { λ r. ⌜ AsciiRun (now (text .entry)) i r ⌝ }
-{
-    if text.len() <= i {
-        return i;
-    }
-    if 0x80 <= text[i] {
-        return i;
-    }
-    past_ones(text, past_eights(text, i + 1))
 }
 
 // ASCII code points as bytes, into out from a place on.

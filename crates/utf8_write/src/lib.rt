@@ -1,11 +1,11 @@
 // Code points written as UTF-8, in the shortest form, by the Unicode Standard. Everything is checked and counted before anything is written, so that
-// a refusal leaves the lent output alone; runs of ASCII are passed eight at a time and written in bulk.
+// a refusal leaves the lent output alone; whole eights of ASCII are written in bulk.
 mod ascii;
 mod check;
 mod sequence;
 
 use ascii::narrow;
-use ascii::past_ascii;
+use ascii::past_eights;
 use base::Counted;
 use base::limits::LONGEST_TEXT;
 use base::not_counted;
@@ -21,29 +21,31 @@ use sequence::three_into;
 use sequence::two_into;
 ghost use mathlib.Core.Bool.{true};
 ghost use mathlib.Core.Path.{_≡_};
-ghost use Prim.Native.Nat.{_≤_};
+ghost use Prim.Native.Nat.{_+_, _≤_};
 ghost use lib.ListN.{length};
 ghost use Rattle.base.specs.Put.{put};
 ghost use Rattle.utf8_table.specs.Encoding.{encodeAll, scalars};
 ghost use Rattle.utf8_write.specs.Answer.{answer, outAfter};
+ghost use Rattle.utf8_write.specs.Inner.Part.{Part};
 
-// The encodings of scalar values, one after the other, into the first places of an output that has room.
-fn encode_into(text: &[u32], out: &mut [u8])
-    requires { ⌜ (scalars (now text) ≡ true) × (length (encodeAll (now text)) ≤ length (now out)) ⌝ }
-    ensures { λ _. ⌜ now (out .exit) ≡ put (now (out .entry)) 0 (encodeAll (now (text .entry))) ⌝ }
+// How many code points are written one by one before eight at a time are tried again: few enough that a run of ASCII is not missed for long, and
+// enough that a text with a letter of two bytes in every word is not looked at twice.
+const SINGLES: usize = 32;
+
+// The encodings of scalar values, one after the other, into an output from a place on: the place after them.
+fn each_into(text: &[u32], out: &mut [u8], at: usize) -> usize
+    requires { ⌜ (scalars (now text) ≡ true) × (at + length (encodeAll (now text)) ≤ length (now out)) ⌝ }
+    ensures { λ r. ⌜ r ≡ at + length (encodeAll (now (text .entry))) ⌝ }
+    ensures { λ _. ⌜ now (out .exit) ≡ put (now (out .entry)) at (encodeAll (now (text .entry))) ⌝ }
 {
     let mut from = 0;
-    let mut to = 0;
+    let mut to = at;
     while from < text.len() {
         let c = text[from];
         if c < 0x80 {
             out[to] = as_byte(c);
             from += 1;
             to += 1;
-            let next = past_ascii(text, from);
-            narrow(&text[from..next], out, to);
-            to += next - from;
-            from = next;
         } else if c < 0x800 {
             two_into(out, to, c);
             from += 1;
@@ -57,6 +59,35 @@ fn encode_into(text: &[u32], out: &mut [u8])
             from += 1;
             to += 4;
         }
+    }
+    to
+}
+
+// Where the code points that are written one by one from i on end.
+fn singles_end(text: &[u32], i: usize) -> usize
+    requires { ⌜ i ≤ length (now text) ⌝ }
+    ensures { λ r. ⌜ Part (length (now (text .entry))) i r ⌝ }
+{
+    if text.len() - i < SINGLES {
+        return text.len();
+    }
+    i + SINGLES
+}
+
+// The encodings of scalar values into the first places of an output that has room: whole eights of ASCII in bulk, then some code points one by one.
+fn encode_into(text: &[u32], out: &mut [u8])
+    requires { ⌜ (scalars (now text) ≡ true) × (length (encodeAll (now text)) ≤ length (now out)) ⌝ }
+    ensures { λ _. ⌜ now (out .exit) ≡ put (now (out .entry)) 0 (encodeAll (now (text .entry))) ⌝ }
+{
+    let mut from = 0;
+    let mut to = 0;
+    while from < text.len() {
+        let next = past_eights(text, from);
+        narrow(&text[from..next], out, to);
+        to += next - from;
+        let end = singles_end(text, next);
+        to = each_into(&text[next..end], out, to);
+        from = end;
     }
 }
 

@@ -1,13 +1,14 @@
 -- Texts of scalar values and their encodings from a place on: a text has scalar values only exactly if no number is ill (`none-ill`, `some-ill`,
--- `all-good`); what a text's encoding is past one code point (`encoded-next`) and past a run of ASCII (`encoded-run`). Assumes nothing.
+-- `all-good`), and so has each part of it (`scalars-part`); what a text's encoding is past one code point (`encoded-next`), past a run of ASCII
+-- (`encoded-run`) and past any part (`encoded-part`). Assumes nothing.
 use Prim.Native.Nat.{ℕ, zero, suc, _+_, _-_, _≤_, _<_}
 use mathlib.Core.Path.{_≡_, refl, sym, ap, _∙_}
-use mathlib.Core.List.{List, [], _∷_, _++_}
+use mathlib.Core.List.{List, [], _∷_, _++_, append-assoc}
 use mathlib.Core.Bool.{Bool, true, false, not, _&&_}
 use native.Mathlib.Numerals.{add-one}
 use native.Mathlib.Omega.{arith}
-use lib.ListN.{length, getD, take, drop, length-append, length-drop}
-use lib.Seq.{drop-cons, drop-drop, getD-drop}
+use lib.ListN.{length, getD, take, drop, length-append, length-drop, take-append-drop}
+use lib.Seq.{drop-cons, drop-drop, getD-drop, getD-take, length-take-le}
 use borrow.Author.Tests.{not-false}
 use Rattle.base.specs.First.{first}
 use Rattle.base.specs.Tests.{scalar}
@@ -88,3 +89,23 @@ encoded-run text i j r =
     let a = ascii-encoded (j - i) (drop i text) (omega (arith, length-drop i text, r .inside))
     (λ m h. rw (getD-drop i text m 0) (r .ascii (i + m) (omega arith) (omega arith))) in
     a ∙ ap (λ (z : List ℕ). take (j - i) (drop i text) ++ encodeAll z) (drop-drop (j - i) i text ∙ ap (λ (k : ℕ). drop k text) e)
+
+-- the encoding of two texts in a row
+encoded-both : (a b : List ℕ) → encodeAll (a ++ b) ≡ encodeAll a ++ encodeAll b
+unfolding encodeAll
+encoded-both [] b = refl
+encoded-both (c ∷ a) b = ap (λ (z : List ℕ). encode c ++ z) (encoded-both a b) ∙ sym (append-assoc (encode c) (encodeAll a) (encodeAll b))
+
+module _ (text : List ℕ) (i j : ℕ) (h : i ≤ j) where
+  pub encoded-part : encodeAll (drop i text) ≡ encodeAll (take (j - i) (drop i text)) ++ encodeAll (drop j text)
+  encoded-part =
+      let e : i + (j - i) ≡ j = omega arith in
+      ap encodeAll (sym (take-append-drop (j - i) (drop i text)))
+      ∙ encoded-both (take (j - i) (drop i text)) (drop (j - i) (drop i text))
+      ∙ ap (λ (z : List ℕ). encodeAll (take (j - i) (drop i text)) ++ encodeAll z) (drop-drop (j - i) i text ∙ ap (λ (k : ℕ). drop k text) e)
+
+  pub scalars-part : j ≤ length text → scalars text ≡ true → scalars (take (j - i) (drop i text)) ≡ true
+  scalars-part l s =
+      let n : length (take (j - i) (drop i text)) ≡ j - i = length-take-le (j - i) (drop i text) (omega (arith, length-drop i text)) in
+      each-scalar (take (j - i) (drop i text))
+      (λ k m. rw (getD-take (j - i) (drop i text) k 0 (omega (arith, m, n)), getD-drop i text k 0) (scalar-at text s (i + k) (omega (arith, m, n))))

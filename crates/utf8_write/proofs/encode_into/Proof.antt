@@ -1,122 +1,66 @@
--- The first `to` places hold the encodings of the first `from` code points, and the rest is as it was: each turn writes the next code point, or a run of
--- ASCII, there. Assumes nothing.
+-- The first `to` places hold the encodings of the first `from` code points, and the rest is as it was: each turn writes the whole eights of ASCII that come
+-- next there, and then a part one by one. Assumes nothing.
 use Prim.Native.Nat.{_-_}
 use native.Mathlib.Omega.{arith}
 use lib.ListN.{length}
 use borrow.Author.Needs.{needs}
-use Rattle.utf8_write.proofs.Loops.Writing.{Writing, writing-start, writing-end}
-use Rattle.utf8_write.proofs.Loops.Writing.{writing-one, writing-byte, writing-two, writing-three, writing-four, writing-top}
-use Rattle.utf8_write.proofs.Loops.Writing.{run-room, run-ascii, writing-run}
+use Rattle.utf8_write.proofs.Laws.Encoded.{scalars-part}
+use Rattle.utf8_write.proofs.Loops.Writing.{Writing, writing-start, writing-end, turn-less}
+use Rattle.utf8_write.proofs.Loops.Writing.{run-room, run-ascii, writing-run, part-room, writing-part}
 use Rattle.utf8_write.proofs.encode_into.Statement.{statement}
 use Rattle.utf8_write.proofs.encode_into.Tie as tie
 
 abbrev Inv-loop : tie.InvT-loop
-Inv-loop text out₀ from₀ to₀ out from to = Writing text out₀ out from to
+Inv-loop text out₀ from₀ to₀ out from to = Writing text out₀ 0 out from to
 
 abbrev μ-loop : tie.MeasureT-loop
 μ-loop text out₀ from₀ to₀ out from to = length text - from
 
 loop-holds : tie.Need-loop-holds Inv-loop μ-loop
-loop-holds c = writing-start _ _ (c .before .before .pre .1)
-
-slice-write-out : tie.Need-slice-write-out Inv-loop μ-loop
-slice-write-out c =
-    let turn = c .before .before .before in
-    let s = writing-one _ _ _ _ _ (turn .before .loop .inv) (turn .loop-test .taken) (c .before .if1 .taken) in omega (arith, s .room)
-
-add-to : tie.Need-add-to Inv-loop μ-loop
-add-to c =
-    let turn = c .before .before .before in
-    let s = writing-one _ _ _ _ _ (turn .before .loop .inv) (turn .loop-test .taken) (c .before .if1 .taken) in omega (arith, s .room)
+loop-holds c = writing-start _ _ _ (omega (arith, c .before .before .pre .1))
 
 narrow-requires : tie.Need-narrow-requires Inv-loop μ-loop
 narrow-requires c κs =
-    let turn = c .before .before .before .before .before .before in
-    let written = writing-byte _ _ _ _ _ (turn .before .loop .inv) (turn .loop-test .taken) (c .before .before .before .before .if1 .taken) in
-    rw (c .before .before .before .as-byte .ensures)
-    (run-room _ _ _ _ _ written _ (c .before .before .past-ascii .ensures), run-ascii _ _ _ _ _ written _ (c .before .before .past-ascii .ensures))
+    let past = c .before .before in
+    let w = past .before .before .loop .inv in
+    (run-room _ _ _ _ _ _ w _ (past .past-eights .ensures), run-ascii _ _ _ _ _ _ w _ (past .past-eights .ensures))
 
-add-to-2 : tie.Need-add-to-2 Inv-loop μ-loop
-add-to-2 c =
-    let turn = c .before .before .before .before .before .before .before .before .before in
-    let written = writing-byte _ _ _ _ _ (turn .before .loop .inv) (turn .loop-test .taken) (c .before .before .before .before .before .before .before .if1 .taken) in
-    let r = run-room _ _ _ _ _ written _ (c .before .before .before .before .before .past-ascii .ensures) in
-    omega arith
+add-to : tie.Need-add-to Inv-loop μ-loop
+add-to c =
+    let past = c .before .before .before .before .before in
+    let w = past .before .before .loop .inv in
+    let r = writing-run _ _ _ _ _ _ w _ (past .past-eights .ensures) in
+    omega (arith, r .room)
+
+each-into-requires : tie.Need-each-into-requires Inv-loop μ-loop
+each-into-requires c κs =
+    let singles = c .before .before .singles-end .ensures in
+    let past = c .before .before .before .before .before .before .before .before in
+    let turn = past .before .before in
+    let w = writing-run _ _ _ _ _ _ (turn .loop .inv) _ (past .past-eights .ensures) in (
+      scalars-part _ _ _ (singles .here) (singles .inside) (turn .before .before .before .pre .0),
+      rw (c .before .before .before .before .before .narrow .ensures) (part-room _ _ _ _ _ _ w _ singles),
+    )
 
 loop-less : tie.Need-loop-less Inv-loop μ-loop
 loop-less c =
-    let run = c .before .before .before .before .before .past-ascii .ensures in omega (arith, run .here, c .before .before .before .before .before .before .before .before .before .loop-test .taken)
+    let past = c .before .before .before .before .before .before .before .before .before .before .before in
+    turn-less _ _ _ _ (past .before .loop-test .taken) (past .past-eights .ensures .here) (c .before .before .before .before .before .singles-end .ensures)
 
 loop-again : tie.Need-loop-again Inv-loop μ-loop
 loop-again c =
-    let turn = c .before .before .before .before .before .before .before .before .before in
-    let written = writing-byte _ _ _ _ _ (turn .before .loop .inv) (turn .loop-test .taken) (c .before .before .before .before .before .before .before .if1 .taken) in
-    let past = c .before .before .before .before .before in
-    rw (c .before .before .narrow .ensures, past .before .as-byte .ensures) (writing-run _ _ _ _ _ written _ (past .past-ascii .ensures))
-
-two-into-requires : tie.Need-two-into-requires Inv-loop μ-loop
-two-into-requires c κs =
-    let turn = c .before .before .before .before in
-    (c .before .before .if1 .left, c .before .if2 .taken, writing-two _ _ _ _ _ (turn .before .loop .inv) (turn .loop-test .taken) (c .before .before .if1 .left) (c .before .if2 .taken) .room)
-
-add-to-3 : tie.Need-add-to-3 Inv-loop μ-loop
-add-to-3 c =
-    let turn = c .before .before .before .before .before .before .before in
-    let at = c .before .before .before in
-    let s = writing-two _ _ _ _ _ (turn .before .loop .inv) (turn .loop-test .taken) (at .before .before .if1 .left) (at .before .if2 .taken) in
-    omega (arith, s .room, turn .before .loop .inv .same)
-
-loop-again-2 : tie.Need-loop-again-2 Inv-loop μ-loop
-loop-again-2 c =
-    let turn = c .before .before .before .before .before .before .before in
-    let at = c .before .before .before in
-    rw (c .before .before .two-into .ensures)
-    (writing-two _ _ _ _ _ (turn .before .loop .inv) (turn .loop-test .taken) (at .before .before .if1 .left) (at .before .if2 .taken) .next)
-
-three-into-requires : tie.Need-three-into-requires Inv-loop μ-loop
-three-into-requires c κs =
-    let turn = c .before .before .before .before .before in
-    (c .before .before .if2 .left, c .before .if3 .taken, writing-three _ _ _ _ _ (turn .before .loop .inv) (turn .loop-test .taken) (c .before .before .if2 .left) (c .before .if3 .taken) .room)
-
-add-to-4 : tie.Need-add-to-4 Inv-loop μ-loop
-add-to-4 c =
-    let turn = c .before .before .before .before .before .before .before .before in
-    let at = c .before .before .before in
-    let s = writing-three _ _ _ _ _ (turn .before .loop .inv) (turn .loop-test .taken) (at .before .before .if2 .left) (at .before .if3 .taken) in
-    omega (arith, s .room, turn .before .loop .inv .same)
-
-loop-again-3 : tie.Need-loop-again-3 Inv-loop μ-loop
-loop-again-3 c =
-    let turn = c .before .before .before .before .before .before .before .before in
-    let at = c .before .before .before in
-    rw (c .before .before .three-into .ensures)
-    (writing-three _ _ _ _ _ (turn .before .loop .inv) (turn .loop-test .taken) (at .before .before .if2 .left) (at .before .if3 .taken) .next)
-
-four-into-requires : tie.Need-four-into-requires Inv-loop μ-loop
-four-into-requires c κs =
-    let turn = c .before .before .before .before .before in
-    let top = writing-top _ _ _ _ _ (turn .before .loop .inv) (turn .loop-test .taken) (turn .before .before .before .before .pre .0) in
-    (c .before .if3 .left, top, writing-four _ _ _ _ _ (turn .before .loop .inv) (turn .loop-test .taken) (c .before .if3 .left) .room)
-
-add-to-5 : tie.Need-add-to-5 Inv-loop μ-loop
-add-to-5 c =
-    let turn = c .before .before .before .before .before .before .before .before in
-    let at = c .before .before .before in
-    let s = writing-four _ _ _ _ _ (turn .before .loop .inv) (turn .loop-test .taken) (at .before .if3 .left) in
-    omega (arith, s .room, turn .before .loop .inv .same)
-
-loop-again-4 : tie.Need-loop-again-4 Inv-loop μ-loop
-loop-again-4 c =
-    let turn = c .before .before .before .before .before .before .before .before in
-    let at = c .before .before .before in
-    rw (c .before .before .four-into .ensures)
-    (writing-four _ _ _ _ _ (turn .before .loop .inv) (turn .loop-test .taken) (at .before .if3 .left) .next)
+    let singles = c .before .before .before .before .before .singles-end .ensures in
+    let past = c .before .before .before .before .before .before .before .before .before .before .before in
+    let w = writing-run _ _ _ _ _ _ (past .before .before .loop .inv) _ (past .past-eights .ensures) in
+    let each = c .before .before .each-into .ensures in
+    let narrowed = c .before .before .before .before .before .before .before .before in
+    rw (each .0, each .1, narrowed .narrow .ensures) (writing-part _ _ _ _ _ _ w _ singles)
 
 same-length : tie.Need-same-length Inv-loop μ-loop
 same-length c = c .before .loop .inv .same
 
 returns : tie.Need-returns Inv-loop μ-loop
-returns c = writing-end _ _ _ _ _ (c .before .loop .inv) (c .loop-test .left)
+returns c = writing-end _ _ _ _ _ _ (c .before .loop .inv) (c .loop-test .left)
 
 pub encode-into-spec : {M : Type 1} → statement M
 encode-into-spec =
@@ -125,12 +69,6 @@ encode-into-spec =
     Inv-loop
     μ-loop
     loop-holds
-    (λ c. search needs)
-    (λ c. search needs)
-    (λ c κs. search needs)
-    slice-write-out
-    (λ c. search needs)
-    add-to
     (λ c κs. search needs)
     (λ c. search needs)
     (λ c. search needs)
@@ -138,23 +76,14 @@ encode-into-spec =
     (λ c. search needs)
     narrow-requires
     (λ c. search needs)
-    add-to-2
+    add-to
+    (λ c κs. search needs)
+    (λ c. search needs)
+    (λ c. search needs)
+    (λ c. search needs)
+    (λ c. search needs)
+    each-into-requires
     loop-less
     loop-again
-    two-into-requires
-    (λ c. search needs)
-    add-to-3
-    (λ c. search needs)
-    loop-again-2
-    three-into-requires
-    (λ c. search needs)
-    add-to-4
-    (λ c. search needs)
-    loop-again-3
-    four-into-requires
-    (λ c. search needs)
-    add-to-5
-    (λ c. search needs)
-    loop-again-4
     same-length
     returns)

@@ -1,9 +1,9 @@
 // Bursts of lines, scored on all processors, their answers written in the order of the input.
-use crate::input::{Burst, Given, Lines, count_lines, read_all};
+use crate::input::{Burst, Given, Lines, read_all};
 use crate::options::Options;
 use crate::output::Output;
 use crate::reading::Reading;
-use drasumira::{DEFAULT_THRESHOLD, NUMBERS_PER_LINE, Refusal, Score, Tables, score_in, score_lines_into};
+use drasumira::{NUMBERS_PER_LINE, Refusal, Score, Tables, score_in, score_lines_into};
 use std::borrow::Cow;
 use std::path::{Path, PathBuf};
 use std::sync::Mutex;
@@ -18,7 +18,7 @@ pub struct Shared<'a> {
 
 impl Shared<'_> {
     pub fn threshold(&self) -> f32 {
-        self.options.threshold.unwrap_or(DEFAULT_THRESHOLD)
+        self.options.noise_threshold()
     }
 
     pub fn reading(&self) -> &Reading {
@@ -72,7 +72,7 @@ pub fn run_with(options: &Options, tables: &Tables, output: &mut Output, teller:
     let work = |given: Given, rows: &mut Vec<u32>| match given {
         Given::Failed(words) => Err(words),
         Given::Burst(burst) => {
-            let mut told = Told { read: burst.read, lines: count_lines(&burst.bytes) as u64, ..Told::default() };
+            let mut told = Told { read: burst.read, lines: burst.lines as u64, ..Told::default() };
             teller.tell(&shared, &burst, rows, &mut told);
             Ok(told)
         }
@@ -146,7 +146,7 @@ fn in_order<J: Send, A: Send>(
 /// Scores the lines of a burst in one call of the library and hands each on.
 pub fn each_line(shared: &Shared<'_>, burst: &Burst, rows: &mut Vec<u32>, told: &mut Told, mut tell: impl FnMut(&mut Told, Line<'_>)) {
     let (text, refused) = read_lines(shared.reading(), &burst.bytes);
-    let room = NUMBERS_PER_LINE * count_lines(&burst.bytes);
+    let room = NUMBERS_PER_LINE * burst.lines;
     if rows.len() < room {
         rows.resize(room, 0);
     }
@@ -177,4 +177,46 @@ fn read_lines<'a>(reading: &Reading, bytes: &'a [u8]) -> (Cow<'a, [u8]>, Vec<(us
         text.push(b'\n');
     }
     (Cow::Owned(text), refused)
+}
+
+#[cfg(test)]
+mod tests {
+    use super::*;
+    use crate::input::Name;
+    use crate::options::{Asked, asked};
+    use std::sync::Arc;
+
+    // What a command tells of these bytes over tables that have no record: those that the package carries have every scalar value.
+    fn told(teller: impl Teller, words: &[&str], bytes: &[u8]) -> Told {
+        let Ok(Asked::Run(options)) = asked(words.iter().map(Into::into)) else { panic!("{words:?}") };
+        let shared = Shared { options: &options, tables: &Tables::builtin_only() };
+        let burst =
+            Burst { file: Arc::new(Name::of(Path::new("-"))), first: 1, bytes: bytes.to_vec(), lines: Lines(bytes).count(), read: 0 };
+        let mut told = Told::default();
+        teller.tell(&shared, &burst, &mut vec![], &mut told);
+        assert!(told.refused && !told.noise);
+        told
+    }
+
+    #[test]
+    fn a_character_in_no_record() {
+        let words = "the character at index 2, counted from 0, is in no class record: it is newer than the tables; try without it";
+        let out = |teller: &dyn Fn() -> Told| String::from_utf8(teller().out).unwrap();
+        let text = "plain\nab\u{4E00}c\nplain\n".as_bytes();
+        let score = out(&|| told(crate::score::Rows, &["score"], text));
+        let plain = "0\t6\tno\t-\t-\t-";
+        assert_eq!(score, format!("-\t1\t{plain}\n-\t2\t-\t-\t-\trefused: {words}\t-\t-\n-\t3\t{plain}\n"));
+        // by a page it is the character of a byte: 80 is U+20AC
+        assert_eq!(out(&|| told(crate::score::Rows, &["score", "--page", "windows-1252"], b"plain\nab\x80c\nplain\n")), score);
+        let object = format!("{{\"file\":\"-\",\"line\":2,\"refused\":6,\"place\":2,\"words\":\"{words}\"}}\n");
+        let ask = &["why", "--json"][..];
+        assert_eq!(out(&|| told(crate::why::Why::in_brackets(), ask, text)), object);
+        assert_eq!(out(&|| told(crate::why::Why::in_brackets(), &ask[..1], text)), format!("-:2: refused: {words}\n"));
+        let both = &["compare", "--page", "utf-8", "--page", "utf-8"];
+        let rows = format!("-\t1\tutf-8\tplain\n-\t2\t-\trefused as utf-8: {words}\n-\t3\tutf-8\tplain\n");
+        assert_eq!(out(&|| told(crate::compare::Compare, both, text)), rows);
+        let scores = told(crate::report::Lines, &["report"], text).scores;
+        assert_eq!(scores[1], Err(Refusal::new(Refusal::UNCLASSED, 2)));
+        assert!(scores.len() == 3 && scores[0].is_ok() && scores[2].is_ok());
+    }
 }

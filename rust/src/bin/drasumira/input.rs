@@ -18,8 +18,9 @@ pub struct Burst {
     pub file: Arc<Name>,
     /// The number of its first line, from 1.
     pub first: u64,
-    /// The lines, each with its newline but perhaps the last of a file.
+    /// The lines, each with its newline but perhaps the last of a file, and how many they are: counted once, since that reads all of them.
     pub bytes: Vec<u8>,
+    pub lines: usize,
     /// How many of the file's bytes came in for it.
     pub read: u64,
 }
@@ -141,25 +142,26 @@ impl Cutter {
     }
 
     fn give_lines(&mut self, mut bytes: Vec<u8>, give: &mut dyn FnMut(Given) -> bool) -> bool {
-        while count_lines(&bytes) > MOST_LINES {
+        let mut lines = count_lines(&bytes);
+        while lines > MOST_LINES {
             let length = Lines(&bytes).take(MOST_LINES).map(|line| line.len() + 1).sum();
             let rest = bytes.split_off(length);
-            if !self.give_burst(bytes, give) {
+            if !self.give_burst(bytes, MOST_LINES, give) {
                 return false;
             }
-            bytes = rest;
+            (bytes, lines) = (rest, lines - MOST_LINES);
         }
-        self.give_burst(bytes, give)
+        self.give_burst(bytes, lines, give)
     }
 
-    fn give_burst(&mut self, bytes: Vec<u8>, give: &mut dyn FnMut(Given) -> bool) -> bool {
+    fn give_burst(&mut self, bytes: Vec<u8>, lines: usize, give: &mut dyn FnMut(Given) -> bool) -> bool {
         let (first, read) = (self.line, std::mem::take(&mut self.read));
-        self.line += count_lines(&bytes) as u64;
-        give(Given::Burst(Burst { file: self.file.clone(), first, bytes, read }))
+        self.line += lines as u64;
+        give(Given::Burst(Burst { file: self.file.clone(), first, bytes, lines, read }))
     }
 }
 
-pub fn count_lines(bytes: &[u8]) -> usize {
+fn count_lines(bytes: &[u8]) -> usize {
     let ended = bytes.iter().filter(|b| **b == b'\n').count();
     ended + bytes.last().is_some_and(|b| *b != b'\n') as usize
 }
@@ -173,6 +175,7 @@ mod tests {
         let mut lines = vec![];
         let mut give = |given: Given| {
             let Given::Burst(burst) = given else { panic!("nothing can fail here") };
+            assert_eq!(burst.lines, Lines(&burst.bytes).count());
             lines.extend((burst.first..).zip(Lines(&burst.bytes).map(<[u8]>::to_vec)));
             true
         };

@@ -49,7 +49,7 @@ fn run(options: &Options, output: &mut Output) {
         Command::Languages => languages::run(options, &tables, output),
         Command::Report => {
             let mut month = report::Month::default();
-            bursts::run_with(options, &tables, output, report::Lines, |told, output| month.add(told, output));
+            bursts::run_with(options, &tables, output, report::Lines, |told, output| month.add(options.noise_threshold(), told, output));
             month.tell(options, output);
         }
     }

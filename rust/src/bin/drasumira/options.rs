@@ -1,5 +1,6 @@
 // What the command line asks for.
 use crate::reading::Reading;
+use drasumira::DEFAULT_THRESHOLD;
 use std::ffi::OsString;
 use std::path::PathBuf;
 
@@ -48,6 +49,13 @@ pub struct Options {
     pub json: bool,
     pub all: bool,
     pub html: Option<PathBuf>,
+}
+
+impl Options {
+    /// The sum from which on a line is noise.
+    pub fn noise_threshold(&self) -> f32 {
+        self.threshold.unwrap_or(DEFAULT_THRESHOLD)
+    }
 }
 
 #[derive(Debug)]

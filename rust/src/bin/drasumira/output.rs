@@ -15,6 +15,9 @@ pub struct Output {
     noise: bool,
     failed: bool,
     progress: Option<Progress>,
+    // what a test would else have to read from standard error
+    #[cfg(test)]
+    pub said: Vec<String>,
 }
 
 // The progress line: only where standard error is a terminal.
@@ -30,7 +33,13 @@ struct Progress {
 
 impl Output {
     pub fn new() -> Output {
-        Output { noise: false, failed: false, progress: None }
+        Output {
+            noise: false,
+            failed: false,
+            progress: None,
+            #[cfg(test)]
+            said: vec![],
+        }
     }
 
     /// From here on a progress line is told of, if somebody sits there. `whole`: how many bytes there are to read, where that is known.
@@ -72,7 +81,10 @@ impl Output {
     /// Says on standard error what is good to know.
     pub fn note(&mut self, words: &str) {
         self.clear();
+        #[cfg(test)]
+        self.said.push(words.to_string());
         // where standard error is closed there is nobody to tell
+        #[cfg(not(test))]
         let _ = writeln!(stderr(), "drasumira: {words}");
     }
 
@@ -90,7 +102,7 @@ impl Output {
         }
     }
 
-    fn status(&self) -> u8 {
+    pub fn status(&self) -> u8 {
         match (self.failed, self.noise) {
             (true, _) => FAILED,
             (_, true) => NOISE,

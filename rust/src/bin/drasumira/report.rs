@@ -22,13 +22,14 @@ impl Teller for Lines {
 #[derive(Default)]
 pub struct Month {
     report: Report,
+    noise: u64,
     causes: BTreeMap<u32, u64>,
     // whether there were more lines than a report takes
     full: bool,
 }
 
 impl Month {
-    pub fn add(&mut self, told: &Told, output: &mut Output) {
+    pub fn add(&mut self, threshold: f32, told: &Told, output: &mut Output) {
         for score in &told.scores {
             if self.report.add(score).is_err() {
                 if !std::mem::replace(&mut self.full, true) {
@@ -38,8 +39,9 @@ impl Month {
                 }
                 return;
             }
-            if let Err(refusal) = score {
-                *self.causes.entry(refusal.number).or_default() += 1;
+            match score {
+                Ok(score) => self.noise += u64::from(score.sum >= threshold),
+                Err(refusal) => *self.causes.entry(refusal.number).or_default() += 1,
             }
         }
     }
@@ -51,8 +53,11 @@ impl Month {
             output.put(self.report.to_string().as_bytes());
         }
         let Some(path) = &options.html else { return };
-        let files: Vec<String> = options.files.iter().map(|path| Name::of(path).shown).collect();
-        if let Err(e) = std::fs::write(path, html::page(&self.report, &files, &self.causes(options))) {
+        let files =
+            options.files.iter().map(|path| if path.as_os_str() == "-" { "standard input".to_string() } else { Name::of(path).shown });
+        let facts =
+            html::Facts { files: files.collect(), threshold: options.noise_threshold(), noise: self.noise, causes: self.causes(options) };
+        if let Err(e) = std::fs::write(path, html::page(&self.report, &facts)) {
             output.fail(&format!("{}: {e}", Name::of(path).shown));
         }
     }

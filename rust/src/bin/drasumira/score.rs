@@ -34,15 +34,32 @@ pub fn put(out: &mut Vec<u8>, words: std::fmt::Arguments<'_>) {
     out.write_fmt(words).expect("memory can be written");
 }
 
+// Most of what `score` costs on top of the scoring is this: numbers are put digit by digit, without the machinery of formats, where no format is needed.
 fn put_row(out: &mut Vec<u8>, file: &Name, line: &Line<'_>, score: &Score) {
-    let stopped = if score.stopped { "yes" } else { "no" };
-    put(out, format_args!("{}\t{}\t{}\t{}\t{stopped}\t", file.shown, line.number, score.sum, score.fed));
+    out.extend_from_slice(file.shown.as_bytes());
+    out.push(b'\t');
+    put_number(out, line.number);
+    put(out, format_args!("\t{}\t", score.sum));
+    put_number(out, score.fed.into());
+    out.extend_from_slice(if score.stopped { b"\tyes\t" } else { b"\tno\t" });
     match score.greatest() {
         Some(detector) => {
             let share = score.share(detector);
             put(out, format_args!("{detector}\t{}\t{}\n", share.numerator, share.denominator));
         }
         None => out.extend_from_slice(b"-\t-\t-\n"),
+    }
+}
+
+fn put_number(out: &mut Vec<u8>, number: u64) {
+    let (mut digits, mut at, mut rest) = ([0; 20], 20, number);
+    loop {
+        at -= 1;
+        digits[at] = b'0' + (rest % 10) as u8;
+        rest /= 10;
+        if rest == 0 {
+            break out.extend_from_slice(&digits[at..]);
+        }
     }
 }
 
@@ -70,4 +87,16 @@ pub fn put_refused(out: &mut Vec<u8>, shared: &Shared<'_>, file: &Name, line: &L
     let words = shared.reading().words(refusal);
     put(out, format_args!("{{\"file\":{},\"line\":{},\"refused\":{},\"place\":{}", file.json, line.number, refusal.number, refusal.place));
     put(out, format_args!(",\"words\":{}}}\n", json(&words)));
+}
+
+#[cfg(test)]
+mod tests {
+    #[test]
+    fn digits() {
+        for number in [0, 9, 10, 65_537, u64::MAX] {
+            let mut out = vec![];
+            super::put_number(&mut out, number);
+            assert_eq!(out, number.to_string().into_bytes());
+        }
+    }
 }

@@ -25,6 +25,11 @@ impl Why {
         let marks = if stdout().is_terminal() && set("NO_COLOR").is_none() && !dumb { Marks::Reverse } else { Marks::Brackets };
         Why { marks }
     }
+
+    #[cfg(test)]
+    pub fn in_brackets() -> Why {
+        Why { marks: Marks::Brackets }
+    }
 }
 
 impl Teller for Why {
