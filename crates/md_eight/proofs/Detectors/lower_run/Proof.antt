@@ -1,0 +1,20 @@
+-- Each of the eight runs is its definition's, at flags that are known. Assumes nothing.
+use Rattle.md_eight.specs.Inner.Runs.{casedRun}
+use borrow.Author.Needs.{needs}
+use Rattle.md_eight.proofs.Detectors.lower_run.Statement.{statement}
+use Rattle.md_eight.proofs.Detectors.lower_run.Tie as tie
+
+returns : tie.Need-returns
+unfolding casedRun
+returns c =
+    let b7 = c .before in
+    let b6 = b7 .before in
+    let b5 = b6 .before in
+    let b4 = b5 .before in
+    let b3 = b4 .before in
+    let b2 = b3 .before in
+    let b1 = b2 .before in
+    simp (b1 .run .ensures, b2 .run2 .ensures, b3 .run3 .ensures, b4 .run4 .ensures, b5 .run5 .ensures, b6 .run6 .ensures, b7 .run7 .ensures, c .cased-run .ensures)
+
+pub lower-run-spec : {M : Type 1} → statement M
+lower-run-spec = tie.close (tie.spec (λ c κs. search needs) (λ c κs. search needs) (λ c κs. search needs) (λ c κs. search needs) (λ c κs. search needs) (λ c κs. search needs) (λ c κs. search needs) (λ c κs. search needs) returns)
