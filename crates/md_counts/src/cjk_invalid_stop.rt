@@ -3,7 +3,7 @@ ghost use mathlib.Core.Path.{_≡_};
 ghost use Prim.Native.Nat.{_≤_};
 ghost use Rattle.base.specs.Inner.Limits.{LARGEST};
 ghost use Rattle.md_counts.specs.CjkInvalidStop.{start, feed, wrongStop, counts};
-ghost use Rattle.md_counts.specs.Inner.CjkInvalidStop.{Room, run};
+ghost use Rattle.md_counts.specs.Inner.CjkInvalidStop.{Room, feedRun};
 use base::flags::CJK;
 use base::is_set;
 use base::one;
@@ -54,9 +54,9 @@ impl CjkInvalidStop {
     }
 
     // m characters with the same flags, none of them a wrong stop.
-    pub fn run(self, f: u32, m: u32) -> CjkInvalidStop
+    pub fn feed_run(self, f: u32, m: u32) -> CjkInvalidStop
         requires { ⌜ Room self × (m ≤ LARGEST) ⌝ }
-        ensures { λ r. ⌜ r ≡ run self f m ⌝ }
+        ensures { λ r. ⌜ r ≡ feedRun self f m ⌝ }
     {
         CjkInvalidStop {
             wrong: self.wrong,

@@ -3,7 +3,7 @@ ghost use mathlib.Core.Path.{_≡_};
 ghost use Prim.Native.Nat.{_≤_};
 ghost use Rattle.base.specs.Inner.Limits.{LARGEST};
 ghost use Rattle.md_counts.specs.TooManyAccentuated.{start, feed, counts};
-ghost use Rattle.md_counts.specs.Inner.TooManyAccentuated.{Room, run};
+ghost use Rattle.md_counts.specs.Inner.TooManyAccentuated.{Room, feedRun};
 ghost use Rattle.ratio.specs.Inner.Fraction.{Small};
 ghost use Rattle.ratio.specs.Fraction.{shareOf};
 use base::flags::ACCENTUATED;
@@ -57,9 +57,9 @@ impl TooManyAccentuated {
     }
 
     // m characters with the same flags.
-    pub fn run(self, f: u32, m: u32) -> TooManyAccentuated
+    pub fn feed_run(self, f: u32, m: u32) -> TooManyAccentuated
         requires { ⌜ Room self × (m ≤ LARGEST) ⌝ }
-        ensures { λ r. ⌜ r ≡ run self f m ⌝ }
+        ensures { λ r. ⌜ r ≡ feedRun self f m ⌝ }
     {
         if !is_set(f, ALPHABETIC) {
             return self;

@@ -2,7 +2,7 @@
 ghost use mathlib.Core.Path.{_≡_};
 ghost use Prim.Native.Nat.{_≤_};
 ghost use Rattle.base.specs.Inner.Limits.{LARGEST};
-ghost use Rattle.md_counts.specs.Inner.TooManySymbolOrPunctuation.{marked, plain, run};
+ghost use Rattle.md_counts.specs.Inner.TooManySymbolOrPunctuation.{marked, plain, feedRun};
 ghost use Rattle.md_counts.specs.TooManySymbolOrPunctuation.{start, feed, printable, adds, countedSymbol, counts};
 ghost use Rattle.md_counts.specs.Inner.TooManySymbolOrPunctuation.{Room};
 ghost use Rattle.ratio.specs.Inner.Fraction.{Small};
@@ -119,14 +119,15 @@ impl TooManySymbolOrPunctuation {
     }
 
     // m characters that are printable and neither punctuation nor a symbol, at least one, the last of them `point`.
-    pub fn run(self, m: u32, point: u32) -> TooManySymbolOrPunctuation
+    pub fn feed_run(self, m: u32, point: u32) -> TooManySymbolOrPunctuation
         requires { ⌜ Room self × (m ≤ LARGEST) ⌝ }
-        ensures { λ r. ⌜ r ≡ run self m point ⌝ }
+        ensures { λ r. ⌜ r ≡ feedRun self m point ⌝ }
     {
+        let symbols = self.symbols;
         TooManySymbolOrPunctuation {
             characters: self.characters + m,
             punctuation: self.punctuation,
-            symbols: self.symbols,
+            symbols,
             last: point,
         }
     }

@@ -3,7 +3,7 @@ ghost use mathlib.Core.Path.{_≡_};
 ghost use Prim.Native.Nat.{_≤_};
 ghost use Rattle.base.specs.Inner.Limits.{LARGEST};
 ghost use Rattle.md_counts.specs.Unprintable.{start, feed, counts};
-ghost use Rattle.md_counts.specs.Inner.Unprintable.{Room, run};
+ghost use Rattle.md_counts.specs.Inner.Unprintable.{Room, feedRun};
 ghost use Rattle.ratio.specs.Inner.Fraction.{Small};
 ghost use Rattle.ratio.specs.Fraction.{shareOf};
 use base::flags::UNPRINTABLE;
@@ -46,9 +46,9 @@ impl Unprintable {
     }
 
     // m printable characters.
-    pub fn run(self, m: u32) -> Unprintable
+    pub fn feed_run(self, m: u32) -> Unprintable
         requires { ⌜ Room self × (m ≤ LARGEST) ⌝ }
-        ensures { λ r. ⌜ r ≡ run self m ⌝ }
+        ensures { λ r. ⌜ r ≡ feedRun self m ⌝ }
     {
         Unprintable {
             characters: self.characters + m,

@@ -59,8 +59,8 @@ pub fn is_cased(f: u32) -> bool
 }
 
 // Punctuation.
-pub fn is_mark(f: u32) -> bool
-    ensures { λ r. ⌜ r ≡ runs.isMark f ⌝ }
+pub fn is_punctuation(f: u32) -> bool
+    ensures { λ r. ⌜ r ≡ runs.isPunctuation f ⌝ }
 {
     is_set(f, PUNCTUATION)
         & !is_set(f, UNPRINTABLE)
@@ -103,14 +103,14 @@ impl Detectors {
         ensures { λ r. ⌜ r ≡ runs.casedRun self c m point base suspicious again ⌝ }
     {
         Detectors {
-            symbols: self.symbols.run(m, point),
-            accents: self.accents.run(c.flags, m),
-            unprintable: self.unprintable.run(m),
-            ranges: self.ranges.run(c.range, m, suspicious, again),
-            doubled: self.doubled.run(c.flags, base, m),
-            words: self.words.run(c.flags, m),
-            stops: self.stops.run(c.flags, m),
-            archaic: self.archaic.cased_run(c.flags, m),
+            symbols: self.symbols.feed_run(m, point),
+            accents: self.accents.feed_run(c.flags, m),
+            unprintable: self.unprintable.feed_run(m),
+            ranges: self.ranges.feed_run(c.range, m, suspicious, again),
+            doubled: self.doubled.feed_run(c.flags, base, m),
+            words: self.words.feed_run(c.flags, m),
+            stops: self.stops.feed_run(c.flags, m),
+            archaic: self.archaic.feed_cased(c.flags, m),
         }
     }
 
@@ -120,14 +120,14 @@ impl Detectors {
         ensures { λ r. ⌜ r ≡ runs.casedRun self (runs.lowerClass point) m point point suspicious again ⌝ }
     {
         Detectors {
-            symbols: self.symbols.run(m, point),
-            accents: self.accents.run(LOWER, m),
-            unprintable: self.unprintable.run(m),
-            ranges: self.ranges.run(BASIC_LATIN, m, suspicious, again),
-            doubled: self.doubled.run(LOWER, point, m),
-            words: self.words.run(LOWER, m),
-            stops: self.stops.run(LOWER, m),
-            archaic: self.archaic.cased_run(LOWER, m),
+            symbols: self.symbols.feed_run(m, point),
+            accents: self.accents.feed_run(LOWER, m),
+            unprintable: self.unprintable.feed_run(m),
+            ranges: self.ranges.feed_run(BASIC_LATIN, m, suspicious, again),
+            doubled: self.doubled.feed_run(LOWER, point, m),
+            words: self.words.feed_run(LOWER, m),
+            stops: self.stops.feed_run(LOWER, m),
+            archaic: self.archaic.feed_cased(LOWER, m),
         }
     }
 
@@ -146,20 +146,20 @@ impl Detectors {
         let doubled = self.doubled;
         let words = self.words;
         Detectors {
-            symbols: self.symbols.run(m, point),
-            accents: self.accents.run(c.flags, m),
-            unprintable: self.unprintable.run(m),
-            ranges: self.ranges.run(c.range, m, suspicious, again),
+            symbols: self.symbols.feed_run(m, point),
+            accents: self.accents.feed_run(c.flags, m),
+            unprintable: self.unprintable.feed_run(m),
+            ranges: self.ranges.feed_run(c.range, m, suspicious, again),
             doubled,
             words,
-            stops: self.stops.run(c.flags, m),
-            archaic: self.archaic.uncased_run(c.flags, m),
+            stops: self.stops.feed_run(c.flags, m),
+            archaic: self.archaic.feed_uncased(c.flags, m),
         }
     }
 
     // One mark of punctuation.
-    pub fn mark(self, c: Class) -> Detectors
-        requires { ⌜ Room self × (runs.isMark (c .flags) ≡ true) × (wrongStop (c .point) ≡ false) ⌝ }
+    pub fn punctuation(self, c: Class) -> Detectors
+        requires { ⌜ Room self × (runs.isPunctuation (c .flags) ≡ true) × (wrongStop (c .point) ≡ false) ⌝ }
         ensures { λ r. ⌜ r ≡ detectors.feed self c false ⌝ }
     {
         let accents = self.accents;
@@ -168,7 +168,7 @@ impl Detectors {
         Detectors {
             symbols: self.symbols.feed(c),
             accents,
-            unprintable: self.unprintable.run(1),
+            unprintable: self.unprintable.feed_run(1),
             ranges: self.ranges.forget(),
             doubled,
             words: self.words.feed(c),

@@ -4,7 +4,7 @@ ghost use Prim.Native.Nat.{_<_, _≤_};
 ghost use Rattle.base.specs.Inner.Limits.{LARGEST};
 ghost use Rattle.md_neighbours.specs.SuspiciousDuplicateAccent.{start, feed, latinLetter, both, letter, counts};
 ghost use Rattle.md_neighbours.specs.Inner.SuspiciousDuplicateAccent.{Room};
-ghost use Rattle.md_neighbours.specs.Inner.SuspiciousDuplicateAccent.{plain, run};
+ghost use Rattle.md_neighbours.specs.Inner.SuspiciousDuplicateAccent.{plain, feedRun};
 ghost use Rattle.ratio.specs.Inner.Fraction.{Small};
 ghost use Rattle.ratio.specs.Fraction.{shareOf};
 use base::flags::ACCENTUATED;
@@ -106,19 +106,20 @@ impl SuspiciousDuplicateAccent {
     }
 
     // m characters with the same flags, no accented Latin letters, at least one; `base` is that of the last.
-    pub fn run(self, f: u32, base: u32, m: u32) -> SuspiciousDuplicateAccent
+    pub fn feed_run(self, f: u32, base: u32, m: u32) -> SuspiciousDuplicateAccent
         requires { ⌜ Room self × (m ≤ LARGEST) ⌝ }
-        ensures { λ r. ⌜ r ≡ run self f base m ⌝ }
+        ensures { λ r. ⌜ r ≡ feedRun self f base m ⌝ }
     {
-        if !latin_letter(f) {
-            return self;
+        if latin_letter(f) {
+            let successive = self.successive;
+            return SuspiciousDuplicateAccent {
+                characters: self.characters + m,
+                successive,
+                flags: f,
+                base,
+            };
         }
-        SuspiciousDuplicateAccent {
-            characters: self.characters + m,
-            successive: self.successive,
-            flags: f,
-            base,
-        }
+        self
     }
 
     pub fn counts(self) -> Counts

@@ -3,7 +3,7 @@ ghost use mathlib.Core.Path.{_≡_};
 ghost use Prim.Native.Nat.{_<_, _≤_};
 ghost use Rattle.base.specs.Inner.Limits.{LARGEST};
 ghost use Rattle.md_neighbours.specs.SuspiciousRange.{start, feed, forgets, forgotten, counts};
-ghost use Rattle.md_neighbours.specs.Inner.SuspiciousRange.{Room, run};
+ghost use Rattle.md_neighbours.specs.Inner.SuspiciousRange.{Room, feedRun};
 ghost use Rattle.ratio.specs.Inner.Fraction.{Small};
 ghost use Rattle.ratio.specs.Fraction.{shareOf};
 use base::flags::COMMON_SAFE;
@@ -84,9 +84,9 @@ impl SuspiciousRange {
 
     // m printable characters of one range that do not forget, at least one. `suspicious` is as for `feed`, of the first of them; `again` is the pair
     // table's bit for their range and itself.
-    pub fn run(self, range: u32, m: u32, suspicious: bool, again: bool) -> SuspiciousRange
+    pub fn feed_run(self, range: u32, m: u32, suspicious: bool, again: bool) -> SuspiciousRange
         requires { ⌜ Room self × (0 < m) × (m ≤ LARGEST) ⌝ }
-        ensures { λ r. ⌜ r ≡ run self range m suspicious again ⌝ }
+        ensures { λ r. ⌜ r ≡ feedRun self range m suspicious again ⌝ }
     {
         SuspiciousRange {
             characters: self.characters + m,
@@ -105,7 +105,7 @@ impl SuspiciousRange {
             characters: self.characters + 1,
             suspicious: self.suspicious,
             seen: false,
-            last: 0,
+            last: 0, // no range
         }
     }
 

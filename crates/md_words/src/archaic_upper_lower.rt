@@ -122,18 +122,19 @@ impl ArchaicUpperLower {
     }
 
     // m letters with case and the same flags, at least one: only at the first can the case change.
-    pub fn cased_run(self, f: u32, m: u32) -> ArchaicUpperLower
+    pub fn feed_cased(self, f: u32, m: u32) -> ArchaicUpperLower
         requires { ⌜ Room self × (m ≤ LARGEST) ⌝ }
-        ensures { λ r. ⌜ r ≡ inner.casedRun self f m ⌝ }
+        ensures { λ r. ⌜ r ≡ inner.feedCased self f m ⌝ }
     {
         let changed = changes(self.last, f);
+        let ascii = self.ascii & is_set(f, ASCII);
         ArchaicUpperLower {
             characters: self.characters + m,
             since: self.since + m,
             run: self.run + pick(changed & self.buf, 2, 0),
             total: self.total,
             last: f,
-            ascii: self.ascii & is_set(f, ASCII),
+            ascii,
             buf: changed & !self.buf & (m == 1),
         }
     }
@@ -150,9 +151,9 @@ impl ArchaicUpperLower {
     }
 
     // m characters with the same flags that are no letters with case, at least one: each is a separator or a letter seen, in turn.
-    pub fn uncased_run(self, f: u32, m: u32) -> ArchaicUpperLower
+    pub fn feed_uncased(self, f: u32, m: u32) -> ArchaicUpperLower
         requires { ⌜ Room self × (m ≤ LARGEST) ⌝ }
-        ensures { λ r. ⌜ r ≡ inner.uncasedRun self f m ⌝ }
+        ensures { λ r. ⌜ r ≡ inner.feedUncased self f m ⌝ }
     {
         let since = (m + one(0 < self.since)) % 2;
         ArchaicUpperLower {

@@ -234,13 +234,14 @@ impl SuperWeirdWord {
         requires { ⌜ Room self × (m ≤ LARGEST) ⌝ }
         ensures { λ r. ⌜ r ≡ inner.letters self f m ⌝ }
     {
+        let watch = self.watch | watched(f);
         SuperWeirdWord {
             characters: self.characters,
             words: self.words,
             foreign: self.foreign,
             spoilt: self.spoilt,
             bad: self.bad,
-            watch: self.watch | watched(f),
+            watch,
             accents: self.accents + pick(is_set(f, ACCENTUATED), m, 0),
             uppercase: self.uppercase + pick(is_set(f, UPPERCASE), m, 0),
             length: self.length + m,
@@ -249,9 +250,9 @@ impl SuperWeirdWord {
     }
 
     // m characters with the same flags, at least one: letters that enter the word, or characters that are passed over.
-    pub fn run(self, f: u32, m: u32) -> SuperWeirdWord
+    pub fn feed_run(self, f: u32, m: u32) -> SuperWeirdWord
         requires { ⌜ Room self × (m ≤ LARGEST) ⌝ }
-        ensures { λ r. ⌜ r ≡ inner.run self f m ⌝ }
+        ensures { λ r. ⌜ r ≡ inner.feedRun self f m ⌝ }
     {
         if !is_set(f, ASCII_ALPHABETIC) {
             return self;

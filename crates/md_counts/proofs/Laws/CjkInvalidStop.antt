@@ -15,7 +15,7 @@ use Rattle.ratio.specs.Inner.Fraction.{Small}
 use Rattle.ratio.specs.Fraction.{shareOf}
 use Rattle.md_counts.specs.declared.cjk_invalid_stop.CjkInvalidStop.{CjkInvalidStop}
 use Rattle.md_counts.specs.CjkInvalidStop.{wrongStop, start, feed, counts}
-use Rattle.md_counts.specs.Inner.CjkInvalidStop.{Room, run}
+use Rattle.md_counts.specs.Inner.CjkInvalidStop.{Room, feedRun}
 use Rattle.md_counts.proofs.Laws.TooManyAccentuated.{more}
 
 -- what holds after k characters
@@ -45,12 +45,12 @@ module _ (k : ℕ) (s : CjkInvalidStop) (w : Within k s) where
 
 -- runs: characters with the same flags, none of them a stop, are all CJK characters or none
 module _ (s : CjkInvalidStop) (c : Class) (e : wrongStop (c .point) ≡ false) where
-  pub run-one : run s (c .flags) 1 ≡ feed s c
-  unfolding run feed
+  pub run-one : feedRun s (c .flags) 1 ≡ feed s c
+  unfolding feedRun feed
   run-one = simp (e, add-zero)
 
-  pub run-more : (m : ℕ) → run s (c .flags) (m + 2) ≡ feed (run s (c .flags) (m + 1)) c
-  unfolding run feed
+  pub run-more : (m : ℕ) → feedRun s (c .flags) (m + 2) ≡ feed (feedRun s (c .flags) (m + 1)) c
+  unfolding feedRun feed
   run-more m = simp (e, more, add-zero)
 
 -- a character that is neither is passed over

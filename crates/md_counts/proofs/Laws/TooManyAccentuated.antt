@@ -16,7 +16,7 @@ use Rattle.ratio.specs.Inner.Fraction.{Small}
 use Rattle.ratio.specs.Fraction.{shareOf}
 use Rattle.md_counts.specs.declared.too_many_accentuated.TooManyAccentuated.{TooManyAccentuated}
 use Rattle.md_counts.specs.TooManyAccentuated.{start, counted, feed, counts}
-use Rattle.md_counts.specs.Inner.TooManyAccentuated.{Room, countedRun, run}
+use Rattle.md_counts.specs.Inner.TooManyAccentuated.{Room, countedRun, feedRun}
 
 -- what holds after k characters
 pub record Within (k : ℕ) (s : TooManyAccentuated) : Type 0 where
@@ -57,12 +57,12 @@ more true n m = simp add-assoc
 more false n m = simp add-zero
 
 module _ (s : TooManyAccentuated) (c : Class) where
-  pub run-one : run s (c .flags) 1 ≡ feed s c
-  unfolding run countedRun feed counted
+  pub run-one : feedRun s (c .flags) 1 ≡ feed s c
+  unfolding feedRun countedRun feed counted
   run-one = refl
 
-  pub run-more : (m : ℕ) → run s (c .flags) (m + 2) ≡ feed (run s (c .flags) (m + 1)) c
-  unfolding run countedRun feed counted
+  pub run-more : (m : ℕ) → feedRun s (c .flags) (m + 2) ≡ feed (feedRun s (c .flags) (m + 1)) c
+  unfolding feedRun countedRun feed counted
   run-more m = by-bool (has (c .flags) ALPHABETIC) (λ p. simp (p, more, add-assoc)) (λ p. simp p)
 
 -- a character that is no letter is passed over

@@ -17,7 +17,7 @@ use Rattle.ratio.specs.Inner.Fraction.{Small}
 use Rattle.ratio.specs.Fraction.{shareOf}
 use Rattle.md_counts.specs.declared.too_many_symbol_or_punctuation.TooManySymbolOrPunctuation.{TooManySymbolOrPunctuation}
 use Rattle.md_counts.specs.TooManySymbolOrPunctuation.{start, adds, countedSymbol, printable, feed, counts}
-use Rattle.md_counts.specs.Inner.TooManySymbolOrPunctuation.{Room, marked, plain, run}
+use Rattle.md_counts.specs.Inner.TooManySymbolOrPunctuation.{Room, marked, plain, feedRun}
 
 -- what holds after k characters
 pub record Within (k : ℕ) (s : TooManySymbolOrPunctuation) : Type 0 where
@@ -71,10 +71,10 @@ plain-printable s c e =
 
 -- runs of such characters
 module _ (s : TooManySymbolOrPunctuation) (c : Class) (e : has (c .flags) UNPRINTABLE ≡ false) (n : marked (c .flags) ≡ false) where
-  pub run-one : run s 1 (c .point) ≡ feed s c
-  unfolding run feed plain
+  pub run-one : feedRun s 1 (c .point) ≡ feed s c
+  unfolding feedRun feed plain
   run-one = simp e (plain-printable s c n)
 
-  pub run-more : (m p : ℕ) → run s (m + 2) (c .point) ≡ feed (run s (m + 1) p) c
-  unfolding run feed plain
-  run-more m p = simp (e, add-assoc, sym (plain-printable (run s (m + 1) p) c n))
+  pub run-more : (m p : ℕ) → feedRun s (m + 2) (c .point) ≡ feed (feedRun s (m + 1) p) c
+  unfolding feedRun feed plain
+  run-more m p = simp (e, add-assoc, sym (plain-printable (feedRun s (m + 1) p) c n))

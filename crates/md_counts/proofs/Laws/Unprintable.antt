@@ -14,7 +14,7 @@ use Rattle.ratio.specs.Inner.Fraction.{Small}
 use Rattle.ratio.specs.Fraction.{shareOf}
 use Rattle.md_counts.specs.declared.unprintable.Unprintable.{Unprintable}
 use Rattle.md_counts.specs.Unprintable.{start, feed, counts}
-use Rattle.md_counts.specs.Inner.Unprintable.{Room, run}
+use Rattle.md_counts.specs.Inner.Unprintable.{Room, feedRun}
 
 -- what holds after k characters
 pub record Within (k : ℕ) (s : Unprintable) : Type 0 where
@@ -45,10 +45,10 @@ module _ (k : ℕ) (s : Unprintable) (w : Within k s) where
 
 -- runs: a printable character adds only to n
 module _ (s : Unprintable) (c : Class) (e : has (c .flags) UNPRINTABLE ≡ false) where
-  pub run-one : run s 1 ≡ feed s c
-  unfolding run feed
+  pub run-one : feedRun s 1 ≡ feed s c
+  unfolding feedRun feed
   run-one = simp (e, add-zero)
 
-  pub run-more : (m : ℕ) → run s (m + 2) ≡ feed (run s (m + 1)) c
-  unfolding run feed
+  pub run-more : (m : ℕ) → feedRun s (m + 2) ≡ feed (feedRun s (m + 1)) c
+  unfolding feedRun feed
   run-more m = simp (e, add-zero, add-assoc)

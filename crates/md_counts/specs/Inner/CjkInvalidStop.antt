@@ -1,4 +1,4 @@
--- Words of inner contracts, beside CjkInvalidStop: `Room`, `run`. No public promise rests on them.
+-- Words of inner contracts, beside CjkInvalidStop: `Room`, `feedRun`. No public promise rests on them.
 -- Assumes nothing.
 use Prim.Native.Nat.{ℕ, _+_, _≤_}
 use mathlib.Core.Bool.{cond}
@@ -12,5 +12,5 @@ pub record Room (s : CjkInvalidStop) : Type 0 where
   pub cjk : s .cjk ≤ MOST-NUM
 
 -- m characters with the same flags, none of them a wrong stop
-unfoldable pub run : CjkInvalidStop → ℕ → ℕ → CjkInvalidStop
-run s f m = record { wrong = s .wrong; cjk = s .cjk + cond (has f CJK) m 0 }
+unfoldable pub feedRun : CjkInvalidStop → ℕ → ℕ → CjkInvalidStop
+feedRun s f m = record { wrong = s .wrong; cjk = s .cjk + cond (has f CJK) m 0 }

@@ -1,4 +1,4 @@
--- Words of inner contracts, beside TooManyAccentuated: `Room`, `countedRun`, `run`. No public promise rests on them.
+-- Words of inner contracts, beside TooManyAccentuated: `Room`, `countedRun`, `feedRun`. No public promise rests on them.
 -- Assumes nothing.
 use Prim.Native.Nat.{ℕ, _+_, _≤_}
 use mathlib.Core.Bool.{cond}
@@ -16,5 +16,5 @@ unfoldable pub countedRun : TooManyAccentuated → ℕ → ℕ → TooManyAccent
 countedRun s f m = record { characters = s .characters + m; accentuated = s .accentuated + cond (has f ACCENTUATED) m 0 }
 
 -- m characters with the same flags
-unfoldable pub run : TooManyAccentuated → ℕ → ℕ → TooManyAccentuated
-run s f m = cond (has f ALPHABETIC) (countedRun s f m) s
+unfoldable pub feedRun : TooManyAccentuated → ℕ → ℕ → TooManyAccentuated
+feedRun s f m = cond (has f ALPHABETIC) (countedRun s f m) s

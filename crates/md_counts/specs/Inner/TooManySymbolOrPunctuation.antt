@@ -1,4 +1,4 @@
--- Words of inner contracts, beside TooManySymbolOrPunctuation: `Room`, `marked`, `plain`, `run`. No public promise rests on them.
+-- Words of inner contracts, beside TooManySymbolOrPunctuation: `Room`, `marked`, `plain`, `feedRun`. No public promise rests on them.
 -- Assumes nothing.
 use Prim.Native.Nat.{_≤_, ℕ, _+_}
 use mathlib.Core.Bool.{Bool, _||_}
@@ -21,5 +21,5 @@ unfoldable pub plain : TooManySymbolOrPunctuation → ℕ → TooManySymbolOrPun
 plain s point = record { characters = s .characters + 1; punctuation = s .punctuation; symbols = s .symbols; last = point }
 
 -- m such characters, at least one, the last of them `point`
-unfoldable pub run : TooManySymbolOrPunctuation → ℕ → ℕ → TooManySymbolOrPunctuation
-run s m point = record { characters = s .characters + m; punctuation = s .punctuation; symbols = s .symbols; last = point }
+unfoldable pub feedRun : TooManySymbolOrPunctuation → ℕ → ℕ → TooManySymbolOrPunctuation
+feedRun s m point = record { characters = s .characters + m; punctuation = s .punctuation; symbols = s .symbols; last = point }

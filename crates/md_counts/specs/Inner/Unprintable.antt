@@ -1,4 +1,4 @@
--- Words of inner contracts, beside Unprintable: `Room`, `run`. No public promise rests on them.
+-- Words of inner contracts, beside Unprintable: `Room`, `feedRun`. No public promise rests on them.
 -- Assumes nothing.
 use Prim.Native.Nat.{ℕ, _+_, _≤_}
 use Rattle.ratio.specs.Inner.Fraction.{MOST-NUM}
@@ -10,5 +10,5 @@ pub record Room (s : Unprintable) : Type 0 where
   pub unprintable : s .unprintable ≤ MOST-NUM
 
 -- m printable characters
-unfoldable pub run : Unprintable → ℕ → Unprintable
-run s m = record { characters = s .characters + m; unprintable = s .unprintable }
+unfoldable pub feedRun : Unprintable → ℕ → Unprintable
+feedRun s m = record { characters = s .characters + m; unprintable = s .unprintable }

@@ -26,7 +26,7 @@ use Rattle.md_counts.proofs.Laws.CjkInvalidStop as stops
 use Rattle.md_words.proofs.Laws.ArchaicUpperLower as archaic
 use Rattle.md_eight.specs.declared.Detectors.{Detectors}
 use Rattle.md_eight.specs.Detectors.{start, feed, lastRange}
-use Rattle.md_eight.specs.Inner.Runs.{isPlain, isCased, isUncased, isMark, casedRun, uncasedRun, markStep, lowerClass, spaceClass}
+use Rattle.md_eight.specs.Inner.Runs.{isPlain, isCased, isUncased, isPunctuation, casedRun, uncasedRun, punctuationStep, lowerClass, spaceClass}
 
 -- what the tests of the flags say, as each detector asks it
 record Plain (f : ℕ) : Type 0 where
@@ -109,16 +109,16 @@ uncased-says f e =
       latin = rw (not-true (has f LATIN) (and-r (p && n1 && n2) n3 e)) (and-false (has f ALPHABETIC));
     }
 
-record Mark (f : ℕ) : Type 0 where
+record Punctuation (f : ℕ) : Type 0 where
   printable : has f UNPRINTABLE ≡ false
   forgotten : forgets f ≡ true
   letter : has f ALPHABETIC ≡ false
   latin : latinLetter f ≡ false
   cjk : has f CJK ≡ false
 
-mark-says : (f : ℕ) → isMark f ≡ true → Mark f
-unfolding isMark forgets latinLetter
-mark-says f e =
+punctuation-says : (f : ℕ) → isPunctuation f ≡ true → Punctuation f
+unfolding isPunctuation forgets latinLetter
+punctuation-says f e =
     let p = has f PUNCTUATION in
     let n1 = not (has f UNPRINTABLE) in
     let n2 = not (has f ALPHABETIC) in
@@ -180,7 +180,7 @@ cased-more s c d m p b x y e f r w =
     )
 
 pub cased-last : (s : Detectors) (c : Class) (m p b : ℕ) (x y : Bool) → lastRange (casedRun s c m p b x y) ≡ c .range
-unfolding casedRun inRanges.run
+unfolding casedRun inRanges.feedRun
 cased-last s c m p b x y = refl
 
 -- a state that feeding reaches: archaic case keeps nothing where it has seen nothing since the last separator
@@ -240,7 +240,7 @@ uncased-more s c d m p x y e f r w =
     )
 
 pub uncased-last : (s : Detectors) (c : Class) (m p : ℕ) (x y : Bool) → lastRange (uncasedRun s c m p x y) ≡ c .range
-unfolding uncasedRun inRanges.run
+unfolding uncasedRun inRanges.feedRun
 uncased-last s c m p x y = refl
 
 -- punctuation and the space forget the last range, so that the pair's bit is not read
@@ -248,13 +248,13 @@ forgets-any : (s : Detectors) (c : Class) (x y : Bool) → has (c .flags) UNPRIN
 unfolding feed
 forgets-any s c x y e f = simp (ranges.feed-forgets (s .ranges) c x e f, ranges.feed-forgets (s .ranges) c y e f)
 
-pub mark-any : (s : Detectors) (c : Class) (x y : Bool) → isMark (c .flags) ≡ true → feed s c x ≡ feed s c y
-mark-any s c x y e = let k = mark-says (c .flags) e in forgets-any s c x y (k .printable) (k .forgotten)
+pub punctuation-any : (s : Detectors) (c : Class) (x y : Bool) → isPunctuation (c .flags) ≡ true → feed s c x ≡ feed s c y
+punctuation-any s c x y e = let k = punctuation-says (c .flags) e in forgets-any s c x y (k .printable) (k .forgotten)
 
-pub mark-is : (s : Detectors) (c : Class) (x : Bool) → isMark (c .flags) ≡ true → wrongStop (c .point) ≡ false → markStep s c ≡ feed s c x
-unfolding markStep feed
-mark-is s c x e w =
-    let k = mark-says (c .flags) e in
+pub punctuation-is : (s : Detectors) (c : Class) (x : Bool) → isPunctuation (c .flags) ≡ true → wrongStop (c .point) ≡ false → punctuationStep s c ≡ feed s c x
+unfolding punctuationStep feed
+punctuation-is s c x e w =
+    let k = punctuation-says (c .flags) e in
     simp (
       accents.feed-passes (s .accents) c (k .letter),
       unprintable.run-one (s .unprintable) c (k .printable),

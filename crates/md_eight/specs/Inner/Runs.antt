@@ -44,8 +44,8 @@ isCased f =
     && not (has f UPPERCASE && has f LOWERCASE)
 
 -- printable punctuation
-unfoldable pub isMark : ℕ → Bool
-isMark f =
+unfoldable pub isPunctuation : ℕ → Bool
+isPunctuation f =
     has f PUNCTUATION
     && not (has f UNPRINTABLE)
     && not (has f ALPHABETIC)
@@ -57,37 +57,37 @@ isMark f =
 unfoldable pub casedRun : Detectors → Class → ℕ → ℕ → ℕ → Bool → Bool → Detectors
 casedRun s c m point base suspicious again =
     record {
-      symbols = symbols.run (s .symbols) m point;
-      accents = accents.run (s .accents) (c .flags) m;
-      unprintable = unprintable.run (s .unprintable) m;
-      ranges = ranges.run (s .ranges) (c .range) m suspicious again;
-      doubled = doubled.run (s .doubled) (c .flags) base m;
-      words = words.run (s .words) (c .flags) m;
-      stops = stops.run (s .stops) (c .flags) m;
-      archaic = archaic.casedRun (s .archaic) (c .flags) m;
+      symbols = symbols.feedRun (s .symbols) m point;
+      accents = accents.feedRun (s .accents) (c .flags) m;
+      unprintable = unprintable.feedRun (s .unprintable) m;
+      ranges = ranges.feedRun (s .ranges) (c .range) m suspicious again;
+      doubled = doubled.feedRun (s .doubled) (c .flags) base m;
+      words = words.feedRun (s .words) (c .flags) m;
+      stops = stops.feedRun (s .stops) (c .flags) m;
+      archaic = archaic.feedCased (s .archaic) (c .flags) m;
     }
 
 -- the same of characters that have no case: doubled accents and weird words pass them over
 unfoldable pub uncasedRun : Detectors → Class → ℕ → ℕ → Bool → Bool → Detectors
 uncasedRun s c m point suspicious again =
     record {
-      symbols = symbols.run (s .symbols) m point;
-      accents = accents.run (s .accents) (c .flags) m;
-      unprintable = unprintable.run (s .unprintable) m;
-      ranges = ranges.run (s .ranges) (c .range) m suspicious again;
+      symbols = symbols.feedRun (s .symbols) m point;
+      accents = accents.feedRun (s .accents) (c .flags) m;
+      unprintable = unprintable.feedRun (s .unprintable) m;
+      ranges = ranges.feedRun (s .ranges) (c .range) m suspicious again;
       doubled = s .doubled;
       words = s .words;
-      stops = stops.run (s .stops) (c .flags) m;
-      archaic = archaic.uncasedRun (s .archaic) (c .flags) m;
+      stops = stops.feedRun (s .stops) (c .flags) m;
+      archaic = archaic.feedUncased (s .archaic) (c .flags) m;
     }
 
 -- one mark of punctuation: accents, doubled accents and stops pass it over, and ranges forget the last character
-unfoldable pub markStep : Detectors → Class → Detectors
-markStep s c =
+unfoldable pub punctuationStep : Detectors → Class → Detectors
+punctuationStep s c =
     record {
       symbols = symbols-step (s .symbols) c;
       accents = s .accents;
-      unprintable = unprintable.run (s .unprintable) 1;
+      unprintable = unprintable.feedRun (s .unprintable) 1;
       ranges = forgotten (s .ranges);
       doubled = s .doubled;
       words = words-step (s .words) c;

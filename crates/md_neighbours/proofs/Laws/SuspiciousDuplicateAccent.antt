@@ -16,7 +16,7 @@ use Rattle.ratio.specs.Inner.Fraction.{Small}
 use Rattle.ratio.specs.Fraction.{shareOf}
 use Rattle.md_neighbours.specs.declared.suspicious_duplicate_accent.SuspiciousDuplicateAccent.{SuspiciousDuplicateAccent}
 use Rattle.md_neighbours.specs.SuspiciousDuplicateAccent.{start, latinLetter, both, letter, feed, counts}
-use Rattle.md_neighbours.specs.Inner.SuspiciousDuplicateAccent.{Room, plain, plainRun, run}
+use Rattle.md_neighbours.specs.Inner.SuspiciousDuplicateAccent.{Room, plain, plainRun, feedRun}
 
 -- what holds after k characters
 pub record Within (k : ℕ) (s : SuspiciousDuplicateAccent) : Type 0 where
@@ -62,12 +62,12 @@ module _ (s : SuspiciousDuplicateAccent) (c : Class) (e : has (c .flags) LATIN &
   unfolding latinLetter
   plain-latin t p = plain-letter t c (rw (and-r (has (c .flags) ALPHABETIC) (has (c .flags) LATIN) p) at e)
 
-  pub run-one : run s (c .flags) (c .base) 1 ≡ feed s c
-  unfolding run plainRun feed plain
+  pub run-one : feedRun s (c .flags) (c .base) 1 ≡ feed s c
+  unfolding feedRun plainRun feed plain
   run-one = by-bool (latinLetter (c .flags)) (λ p. simp p (plain-latin s p)) (λ p. simp p)
 
-  pub run-more : (m b : ℕ) → run s (c .flags) (c .base) (m + 2) ≡ feed (run s (c .flags) b (m + 1)) c
-  unfolding run plainRun feed plain
+  pub run-more : (m b : ℕ) → feedRun s (c .flags) (c .base) (m + 2) ≡ feed (feedRun s (c .flags) b (m + 1)) c
+  unfolding feedRun plainRun feed plain
   run-more m b =
       by-bool (latinLetter (c .flags))
       (λ p. simp (p, add-assoc, sym (plain-latin (plainRun s (c .flags) b (m + 1)) p)))

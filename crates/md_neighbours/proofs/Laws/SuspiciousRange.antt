@@ -16,7 +16,7 @@ use Rattle.ratio.specs.Inner.Fraction.{Small}
 use Rattle.ratio.specs.Fraction.{shareOf}
 use Rattle.md_neighbours.specs.declared.suspicious_range.SuspiciousRange.{SuspiciousRange}
 use Rattle.md_neighbours.specs.SuspiciousRange.{start, forgets, forgotten, followed, feed, counts}
-use Rattle.md_neighbours.specs.Inner.SuspiciousRange.{Room, run}
+use Rattle.md_neighbours.specs.Inner.SuspiciousRange.{Room, feedRun}
 
 -- what holds after k characters
 pub record Within (k : ℕ) (s : SuspiciousRange) : Type 0 where
@@ -72,12 +72,12 @@ more true n m = omega arith
 more false n m = simp add-zero
 
 module _ (s : SuspiciousRange) (c : Class) (e : has (c .flags) UNPRINTABLE ≡ false) (f : forgets (c .flags) ≡ false) (x y : Bool) where
-  pub run-one : run s (c .range) 1 x y ≡ feed s c x
-  unfolding run feed followed
+  pub run-one : feedRun s (c .range) 1 x y ≡ feed s c x
+  unfolding feedRun feed followed
   run-one = simp (e, f, none y)
 
-  pub run-more : (m : ℕ) → run s (c .range) (m + 2) x y ≡ feed (run s (c .range) (m + 1) x y) c y
-  unfolding run feed followed
+  pub run-more : (m : ℕ) → feedRun s (c .range) (m + 2) x y ≡ feed (feedRun s (c .range) (m + 1) x y) c y
+  unfolding feedRun feed followed
   run-more m = simp (e, f, more y, add-assoc)
 
 -- a printable character that forgets the last one does not read the pair's bit

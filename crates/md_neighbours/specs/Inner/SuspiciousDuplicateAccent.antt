@@ -1,4 +1,4 @@
--- Words of inner contracts, beside SuspiciousDuplicateAccent: `Room`, `plain`, `plainRun`, `run`. No public promise rests on them.
+-- Words of inner contracts, beside SuspiciousDuplicateAccent: `Room`, `plain`, `plainRun`, `feedRun`. No public promise rests on them.
 -- Assumes nothing.
 use Prim.Native.Nat.{ℕ, _≤_, _+_}
 use mathlib.Core.Bool.{cond}
@@ -21,5 +21,5 @@ unfoldable pub plainRun : SuspiciousDuplicateAccent → ℕ → ℕ → ℕ → 
 plainRun s f base m = record { characters = s .characters + m; successive = s .successive; flags = f; base = base }
 
 -- m characters with the same flags, no accented Latin letters
-unfoldable pub run : SuspiciousDuplicateAccent → ℕ → ℕ → ℕ → SuspiciousDuplicateAccent
-run s f base m = cond (latinLetter f) (plainRun s f base m) s
+unfoldable pub feedRun : SuspiciousDuplicateAccent → ℕ → ℕ → ℕ → SuspiciousDuplicateAccent
+feedRun s f base m = cond (latinLetter f) (plainRun s f base m) s

@@ -1,4 +1,4 @@
--- Words of inner contracts, beside SuspiciousRange: `Room`, `run`. No public promise rests on them.
+-- Words of inner contracts, beside SuspiciousRange: `Room`, `feedRun`. No public promise rests on them.
 -- Assumes nothing.
 use Prim.Native.Nat.{ℕ, _+_, _-_, _≤_}
 use mathlib.Core.Bool.{Bool, true, cond, _&&_}
@@ -12,8 +12,8 @@ pub record Room (s : SuspiciousRange) : Type 0 where
   pub suspicious : s .suspicious ≤ MOST-NUM
 
 -- m printable characters of one range that do not forget, at least one. `suspicious` is as for `feed`, of the first; `again` is the same of the range after itself
-unfoldable pub run : SuspiciousRange → ℕ → ℕ → Bool → Bool → SuspiciousRange
-run s range m suspicious again =
+unfoldable pub feedRun : SuspiciousRange → ℕ → ℕ → Bool → Bool → SuspiciousRange
+feedRun s range m suspicious again =
     record {
       characters = s .characters + m;
       suspicious = s .suspicious + bump (s .seen && suspicious) + cond again (m - 1) 0;

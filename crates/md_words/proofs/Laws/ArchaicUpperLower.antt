@@ -18,7 +18,7 @@ use Rattle.ratio.specs.Inner.Fraction.{Small}
 use Rattle.ratio.specs.Fraction.{shareOf}
 use Rattle.md_words.specs.declared.archaic_upper_lower.ArchaicUpperLower.{ArchaicUpperLower}
 use Rattle.md_words.specs.ArchaicUpperLower.{start, separates, counted, separator, changes, letter, feed, counts}
-use Rattle.md_words.specs.Inner.ArchaicUpperLower.{Room, casedRun, closedTotal, inTurn, seenLast, uncasedRun}
+use Rattle.md_words.specs.Inner.ArchaicUpperLower.{Room, feedCased, closedTotal, inTurn, seenLast, feedUncased}
 
 -- what holds after k characters
 pub record Within (k : ℕ) (s : ArchaicUpperLower) : Type 0 where
@@ -71,15 +71,15 @@ cond-alike true x = refl
 cond-alike false x = refl
 
 -- runs: only the first of letters with case and the same flags can change the case
-pub cased-one : (s : ArchaicUpperLower) (c : Class) → has (c .flags) ALPHABETIC && has (c .flags) CASE-VARIABLE ≡ true → casedRun s (c .flags) 1 ≡ feed s c
-unfolding casedRun letter feed separates
+pub cased-one : (s : ArchaicUpperLower) (c : Class) → has (c .flags) ALPHABETIC && has (c .flags) CASE-VARIABLE ≡ true → feedCased s (c .flags) 1 ≡ feed s c
+unfolding feedCased letter feed separates
 cased-one s c e = simp (e, and-true)
 
 pub cased-more : (s : ArchaicUpperLower) (c : Class) (m : ℕ)
     → has (c .flags) ALPHABETIC && has (c .flags) CASE-VARIABLE ≡ true
     → changes (c .flags) (c .flags) ≡ false
-    → casedRun s (c .flags) (m + 2) ≡ feed (casedRun s (c .flags) (m + 1)) c
-unfolding casedRun letter feed separates
+    → feedCased s (c .flags) (m + 2) ≡ feed (feedCased s (c .flags) (m + 1)) c
+unfolding feedCased letter feed separates
 cased-more s c m e k =
     let q : eqb (m + 2) 1 ≡ false = ne-eqb (m + 2) 1 (λ h. omega (arith, h)) in
     simp (e, k, q, and-false, and-assoc, and-self, add-zero, add-assoc)
@@ -125,7 +125,7 @@ module _ (s : ArchaicUpperLower) (c : Class) (e : has (c .flags) ALPHABETIC && h
   unfolding inTurn feed separates separator
   to-separator k = simp (e, cond-alike, add-zero, add-assoc)
 
-  pub uncased-one : Settled s → uncasedRun s (c .flags) 1 ≡ feed s c
+  pub uncased-one : Settled s → feedUncased s (c .flags) 1 ≡ feed s c
   unfolding seenLast inTurn closedTotal feed separates separator letter
   uncased-one k =
       by-bool (ltb 0 (s .since))
@@ -135,7 +135,7 @@ module _ (s : ArchaicUpperLower) (c : Class) (e : has (c .flags) ALPHABETIC && h
       let r = k z in
       simp (e, z, r .run, r .last, r .ascii, r .buf, no-change (c .flags), cond-alike, add-zero))
 
-  pub uncased-more : (m : ℕ) → uncasedRun s (c .flags) (m + 2) ≡ feed (uncasedRun s (c .flags) (m + 1)) c
+  pub uncased-more : (m : ℕ) → feedUncased s (c .flags) (m + 2) ≡ feed (feedUncased s (c .flags) (m + 1)) c
   unfolding seenLast
   uncased-more m =
       let b = bump (ltb 0 (s .since)) in

@@ -17,7 +17,7 @@ use Rattle.ratio.specs.Inner.Fraction.{Small}
 use Rattle.ratio.specs.Fraction.{shareOf}
 use Rattle.md_words.specs.declared.super_weird_word.SuperWeirdWord.{SuperWeirdWord}
 use Rattle.md_words.specs.SuperWeirdWord.{start, closes, counted, letter, symbol, accented, capital, long, close, inside, feed, counts}
-use Rattle.md_words.specs.Inner.SuperWeirdWord.{Room, letters, run}
+use Rattle.md_words.specs.Inner.SuperWeirdWord.{Room, letters, feedRun}
 use Rattle.md_words.proofs.Laws.ArchaicUpperLower.{cond-alike}
 
 -- what holds after k characters
@@ -151,15 +151,15 @@ module _ (s : SuperWeirdWord) (c : Class) (e : closes (c .flags) ≡ false) (y :
   unfolding feed inside counted
   feed-passes p = simp (p, e, y, and-false, cond-alike)
 
-  pub run-one : run s (c .flags) 1 ≡ feed s c
-  unfolding run
+  pub run-one : feedRun s (c .flags) 1 ≡ feed s c
+  unfolding feedRun
   run-one =
       by-bool (has (c .flags) ASCII-ALPHABETIC)
       (λ p. simp (p, feed-letter s c p, letters-one s (c .flags)))
       (λ p. simp (p, feed-passes p))
 
-  pub run-more : (m : ℕ) → run s (c .flags) (m + 2) ≡ feed (run s (c .flags) (m + 1)) c
-  unfolding run
+  pub run-more : (m : ℕ) → feedRun s (c .flags) (m + 2) ≡ feed (feedRun s (c .flags) (m + 1)) c
+  unfolding feedRun
   run-more m =
       by-bool (has (c .flags) ASCII-ALPHABETIC)
       (λ p. simp (p, feed-letter (letters s (c .flags) (m + 1)) c p, letters-more s (c .flags) m))

@@ -17,8 +17,8 @@ pub record Room (s : ArchaicUpperLower) : Type 0 where
   pub total : s .total ≤ MOST-NUM
 
 -- m letters with case, at least one: only at the first can the case change
-unfoldable pub casedRun : ArchaicUpperLower → ℕ → ℕ → ArchaicUpperLower
-casedRun s f m =
+unfoldable pub feedCased : ArchaicUpperLower → ℕ → ℕ → ArchaicUpperLower
+feedCased s f m =
     record {
       characters = s .characters + m;
       since = s .since + m;
@@ -50,5 +50,5 @@ inTurn s f since m =
 unfoldable pub seenLast : ArchaicUpperLower → ℕ → ℕ
 seenLast s m = (m + bump (ltb 0 (s .since))) % 2
 
-abbrev pub uncasedRun : ArchaicUpperLower → ℕ → ℕ → ArchaicUpperLower
-uncasedRun s f m = inTurn s f (seenLast s m) m
+abbrev pub feedUncased : ArchaicUpperLower → ℕ → ℕ → ArchaicUpperLower
+feedUncased s f m = inTurn s f (seenLast s m) m

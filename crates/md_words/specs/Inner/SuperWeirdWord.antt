@@ -34,5 +34,5 @@ letters s f m =
     }
 
 -- m letters, or m characters that are passed over
-unfoldable pub run : SuperWeirdWord → ℕ → ℕ → SuperWeirdWord
-run s f m = cond (has f ASCII-ALPHABETIC) (letters s f m) s
+unfoldable pub feedRun : SuperWeirdWord → ℕ → ℕ → SuperWeirdWord
+feedRun s f m = cond (has f ASCII-ALPHABETIC) (letters s f m) s

@@ -17,4 +17,15 @@ returns c =
     simp (b1 .feed .ensures, b2 .feed2 .ensures, b3 .feed3 .ensures, b4 .feed4 .ensures, b5 .feed5 .ensures, b6 .feed6 .ensures, b7 .feed7 .ensures, c .feed8 .ensures)
 
 pub space-spec : {M : Type 1} → statement M
-space-spec = tie.close (tie.spec (λ c κs. search needs) (λ c κs. search needs) (λ c κs. search needs) (λ c κs. search needs) (λ c κs. search needs) (λ c κs. search needs) (λ c κs. search needs) (λ c κs. search needs) returns)
+space-spec =
+    tie.close
+    (tie.spec
+    (λ c κs. search needs)
+    (λ c κs. search needs)
+    (λ c κs. search needs)
+    (λ c κs. search needs)
+    (λ c κs. search needs)
+    (λ c κs. search needs)
+    (λ c κs. search needs)
+    (λ c κs. search needs)
+    returns)

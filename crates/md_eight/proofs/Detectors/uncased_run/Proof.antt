@@ -12,7 +12,16 @@ returns c =
     let b3 = b4 .before in
     let b2 = b3 .before in
     let b1 = b2 .before in
-    simp (b1 .run .ensures, b2 .run2 .ensures, b3 .run3 .ensures, b4 .run4 .ensures, b5 .run5 .ensures, c .uncased-run .ensures)
+    simp (b1 .feed-run .ensures, b2 .feed-run2 .ensures, b3 .feed-run3 .ensures, b4 .feed-run4 .ensures, b5 .feed-run5 .ensures, c .feed-uncased .ensures)
 
 pub uncased-run-spec : {M : Type 1} → statement M
-uncased-run-spec = tie.close (tie.spec (λ c κs. search needs) (λ c κs. search needs) (λ c κs. search needs) (λ c κs. search needs) (λ c κs. search needs) (λ c κs. search needs) returns)
+uncased-run-spec =
+    tie.close
+    (tie.spec
+    (λ c κs. search needs)
+    (λ c κs. search needs)
+    (λ c κs. search needs)
+    (λ c κs. search needs)
+    (λ c κs. search needs)
+    (λ c κs. search needs)
+    returns)
