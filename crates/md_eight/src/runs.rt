@@ -28,7 +28,8 @@ use base::flags::WHITESPACE;
 use base::is_set;
 use classes::Class;
 
-// Whether a character of a run may have these flags. Tests of single bits, which the proofs compute; the compiler makes one mask of them.
+// Whether a character of a run may have these flags: it is printable, closes no word, is no symbol and lets ranges remember.
+// Tests of single bits, which the proofs compute; the compiler makes one mask of them.
 fn is_plain(f: u32) -> bool
     ensures { λ r. ⌜ r ≡ runs.isPlain f ⌝ }
 {
@@ -40,14 +41,14 @@ fn is_plain(f: u32) -> bool
         & !is_set(f, COMMON_SAFE)
 }
 
-// Letters without case, and characters with no flag that a detector looks at but ALPHABETIC, ACCENTUATED and CJK.
+// Letters without case, and other characters that enter no word.
 pub fn is_uncased(f: u32) -> bool
     ensures { λ r. ⌜ r ≡ runs.isUncased f ⌝ }
 {
     is_plain(f) & !is_set(f, ASCII_ALPHABETIC) & !is_set(f, CASE_VARIABLE) & !is_set(f, LATIN)
 }
 
-// Letters of one case, but for accented Latin ones.
+// Letters of one case, but for accented Latin ones, two of which may add to doubled accents.
 pub fn is_cased(f: u32) -> bool
     ensures { λ r. ⌜ r ≡ runs.isCased f ⌝ }
 {
@@ -58,7 +59,7 @@ pub fn is_cased(f: u32) -> bool
         & !(is_set(f, UPPERCASE) & is_set(f, LOWERCASE))
 }
 
-// Punctuation.
+// Printable punctuation that is no letter and no CJK character: accents, doubled accents and stops pass it over.
 pub fn is_punctuation(f: u32) -> bool
     ensures { λ r. ⌜ r ≡ runs.isPunctuation f ⌝ }
 {

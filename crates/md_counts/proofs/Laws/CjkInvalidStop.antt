@@ -1,5 +1,6 @@
 -- How large the counts of CJK stops can be: a character is a stop or a CJK character and not both, so the two together are at most the
 -- characters. So a step has room and the counts are small. Its ratio has no bound of its own (01: "All but CJK stops").
+-- A run is the same as feeding its characters one by one (`run-one`, `run-more`).
 -- Assumes nothing.
 use Prim.Native.Nat.{ℕ, _+_, _≤_}
 use mathlib.Core.Path.{_≡_}

@@ -1,5 +1,5 @@
 -- How large the counts of accents can be: the accented letters are at most the letters. So a step has room, the counts are small, and
--- its ratio is at most 1.
+-- its ratio is at most 1. A run is the same as feeding its characters one by one (`run-one`, `run-more`).
 -- Assumes nothing.
 use Prim.Native.Nat.{ℕ, _+_, _*_, _≤_}
 use mathlib.Core.Path.{_≡_, refl}

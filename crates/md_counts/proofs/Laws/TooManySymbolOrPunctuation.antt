@@ -1,6 +1,7 @@
 -- How large the counts of symbols can be: a character that counts is punctuation or a symbol and not both, so the two together are at most
 -- the printable characters. So a step has room, the counts are small, and its ratio is at most 2. And `plain-printable`: a
--- character that is neither punctuation nor a symbol adds only to n, which is the code's short way.
+-- character that is neither punctuation nor a symbol adds only to n, which is the code's short way. A run of
+-- such characters is the same as feeding them one by one (`run-one`, `run-more`).
 -- Assumes nothing.
 use Prim.Native.Nat.{ℕ, _+_, _*_, _≤_}
 use mathlib.Core.Path.{_≡_, refl, sym}

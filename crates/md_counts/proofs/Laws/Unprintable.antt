@@ -1,5 +1,5 @@
 -- How large the counts of unprintables can be: the unprintable characters are at most the characters. So a step has room, the counts are
--- small, and its ratio is at most 8.
+-- small, and its ratio is at most 8. A run is the same as feeding its characters one by one (`run-one`, `run-more`).
 -- Assumes nothing.
 use Prim.Native.Nat.{ℕ, _+_, _*_, _≤_}
 use mathlib.Core.Path.{_≡_}

@@ -7,7 +7,7 @@ use mathlib.Core.Bool.{Bool, true, false, not, _&&_, and-comm, and-false, or-tru
 use borrow.Author.Tests.{not-true}
 use Rattle.base.specs.Flags.{has, WHITESPACE, UNPRINTABLE, SYMBOL, COMMON-SAFE, PUNCTUATION, SEPARATOR, ASCII-ALPHABETIC}
 use Rattle.base.specs.Flags.{LATIN, ALPHABETIC, ACCENTUATED, CJK, CASE-VARIABLE, LOWERCASE, UPPERCASE}
-use Rattle.base.proofs.Laws.Tests.{by-bool, and-l, and-r}
+use Rattle.base.proofs.Laws.Tests.{and-l, and-r}
 use Rattle.classes.specs.declared.Class.{Class}
 use Rattle.md_counts.specs.CjkInvalidStop.{wrongStop}
 use Rattle.md_counts.specs.Inner.TooManySymbolOrPunctuation.{marked}

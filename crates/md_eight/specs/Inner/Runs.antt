@@ -20,7 +20,7 @@ use Rattle.md_neighbours.specs.SuspiciousRange.{forgotten}
 use Rattle.md_words.specs.SuperWeirdWord.{feed as words-step}
 use Rattle.md_words.specs.ArchaicUpperLower.{feed as archaic-step}
 
--- the flags of a character that is printable, closes no word, is no symbol and is not forgotten
+-- the flags of a character that is printable, closes no word, is no symbol and lets ranges remember
 unfoldable pub isPlain : ℕ → Bool
 isPlain f =
     not (has f UNPRINTABLE)

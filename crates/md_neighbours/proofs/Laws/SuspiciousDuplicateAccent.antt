@@ -1,5 +1,6 @@
 -- How large the counts of doubled accents can be: a letter adds at most 2. So a step has room, the counts are small, and its ratio is at
--- most 4. And `plain-letter`: a letter without accent adds only to n, which is the code's short way.
+-- most 4. And `plain-letter`: a letter without accent adds only to n, which is the code's short way. A run of
+-- such letters is the same as feeding them one by one (`run-one`, `run-more`).
 -- Assumes nothing.
 use Prim.Native.Nat.{ℕ, _+_, _*_, _≤_}
 use mathlib.Core.Path.{_≡_, sym}

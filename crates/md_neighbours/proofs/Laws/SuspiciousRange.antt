@@ -1,5 +1,6 @@
 -- How large the counts of ranges can be: a suspicious character is a printable one. So a step has room, the counts are small, and its
--- ratio is at most 2. And the last range is one that a character had, so that it has a row in the pair table.
+-- ratio is at most 2. And the last range is one that a character had, so that it has a row in the pair table. A run
+-- is the same as feeding its characters one by one (`run-one`, `run-more`).
 -- Assumes nothing.
 use Prim.Native.Nat.{ℕ, _+_, _-_, _*_, _≤_}
 use mathlib.Core.Path.{_≡_, refl}

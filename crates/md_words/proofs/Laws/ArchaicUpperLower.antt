@@ -1,6 +1,7 @@
 -- How large the counts of archaic case can be. Each 2 of a run stands for two characters since the last separator, the one that set
 -- `buf` and the one that cleared it: a run, with `buf` as 1, is at most the characters since, and the runs counted at most those before.
--- So a step has room, the counts are small, and its ratio is at most 1.
+-- So a step has room, the counts are small, and its ratio is at most 1. A run is the same as feeding its characters one by one: letters with case (`cased-one`, `cased-more`), and
+-- characters without (`uncased-one`, `uncased-more`), from states that feeding reaches (`Settled`).
 -- Assumes nothing.
 use Prim.Native.Nat.{ℕ, _+_, _*_, _%_, _≤_}
 use mathlib.Core.Path.{_≡_, refl}

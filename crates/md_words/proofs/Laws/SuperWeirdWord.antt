@@ -1,5 +1,5 @@
 -- How large the counts of weird words can be: after k characters at most k stand in words, and those of bad words are among them. So a
--- step has room, the counts are small, and its ratio is at most 1.
+-- step has room, the counts are small, and its ratio is at most 1. A run is the same as feeding its characters one by one (`run-one`, `run-more`).
 -- Assumes nothing.
 use Prim.Native.Nat.{ℕ, _+_, _*_, _≤_}
 use mathlib.Core.Path.{_≡_, refl}
