@@ -15,6 +15,7 @@ FAMILIES = {
     "main": "a program",
     "start": "the state before anything was met",
     "feed": "a detector's step",
+    "feed_run": "a detector's steps at characters with the same flags, at once",
     "counts": "what a detector answers",
     "ratios": "the eight ratios: of counts, and of the detectors by their counts",
     "letter": "a detector's step at a letter",

@@ -97,6 +97,15 @@ def function_at(text, at):
     return f"{owner}/{found}" if owner and found else found
 
 
+def home(crate, file, function):
+    """The source file by which a function's proof is placed: for a method, the one that declares its type."""
+    owner = function.rpartition("/")[0]
+    for path in [crate / file, *sorted((crate / "src").glob("**/*.rt"))]:
+        if owner and re.search(rf"(?m)^(?:pub )?(?:struct|enum) {owner}\b", path.read_text(encoding="utf-8")):
+            return str(path.relative_to(crate))
+    return file
+
+
 def folder(file, function):
     """The folder below proofs/ of a function of a source file."""
     module = re.sub(r"^src/|(/mod)?\.rt$", "", file)
@@ -170,7 +179,7 @@ def check(edit):
         if edit.kind == "round":
             if any(not f.startswith("src/") for f, _ in places):
                 raise edit.says(f"{program.name}: a round changes code only")
-            functions = {folder(f, g) for f, g in places if g and g != "const"}
+            functions = {folder(home(crate, f, g), g) for f, g in places if g and g != "const"}
             if len(functions) != 1 or any(g == "const" for _, g in places):
                 raise edit.says(f"{program.name}: it changes {sorted(functions)} or a constant, and not one function")
             (function,) = functions

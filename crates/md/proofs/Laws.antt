@@ -1,3 +1,4 @@
+pub mod Ascii
 pub mod Accepted
 pub mod Counts
 pub mod Default

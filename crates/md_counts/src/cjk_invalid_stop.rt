@@ -1,10 +1,13 @@
 // CJK stops: how many stops are rendered wrongly, for the CJK characters.
 ghost use mathlib.Core.Path.{_≡_};
+ghost use Prim.Native.Nat.{_≤_};
+ghost use Rattle.base.specs.Inner.Limits.{LARGEST};
 ghost use Rattle.md_counts.specs.CjkInvalidStop.{start, feed, wrongStop, counts};
-ghost use Rattle.md_counts.specs.Inner.CjkInvalidStop.{Room};
+ghost use Rattle.md_counts.specs.Inner.CjkInvalidStop.{Room, feedRun};
 use base::flags::CJK;
 use base::is_set;
 use base::one;
+use base::pick;
 use classes::Class;
 use ratio::Counts;
 use ratio::Fraction;
@@ -26,7 +29,7 @@ pub struct CjkInvalidStop {
     pub cjk: u32,
 }
 
-fn wrong_stop(point: u32) -> bool
+pub fn wrong_stop(point: u32) -> bool
     ensures { λ r. ⌜ r ≡ wrongStop point ⌝ }
 {
     (point == STOP_UP) | (point == STOP_DOWN)
@@ -47,6 +50,17 @@ impl CjkInvalidStop {
         CjkInvalidStop {
             wrong: self.wrong + one(wrong),
             cjk: self.cjk + one(!wrong & is_set(c.flags, CJK)),
+        }
+    }
+
+    // m characters with the same flags, none of them a wrong stop.
+    pub fn feed_run(self, f: u32, m: u32) -> CjkInvalidStop
+        requires { ⌜ Room self × (m ≤ LARGEST) ⌝ }
+        ensures { λ r. ⌜ r ≡ feedRun self f m ⌝ }
+    {
+        CjkInvalidStop {
+            wrong: self.wrong,
+            cjk: self.cjk + pick(is_set(f, CJK), m, 0),
         }
     }
 

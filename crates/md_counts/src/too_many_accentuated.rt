@@ -1,13 +1,16 @@
 // Accents: how many of the letters are accented.
 ghost use mathlib.Core.Path.{_≡_};
+ghost use Prim.Native.Nat.{_≤_};
+ghost use Rattle.base.specs.Inner.Limits.{LARGEST};
 ghost use Rattle.md_counts.specs.TooManyAccentuated.{start, feed, counts};
-ghost use Rattle.md_counts.specs.Inner.TooManyAccentuated.{Room};
+ghost use Rattle.md_counts.specs.Inner.TooManyAccentuated.{Room, feedRun};
 ghost use Rattle.ratio.specs.Inner.Fraction.{Small};
 ghost use Rattle.ratio.specs.Fraction.{shareOf};
 use base::flags::ACCENTUATED;
 use base::flags::ALPHABETIC;
 use base::is_set;
 use base::one;
+use base::pick;
 use classes::Class;
 use ratio::Counts;
 use ratio::Fraction;
@@ -50,6 +53,20 @@ impl TooManyAccentuated {
         TooManyAccentuated {
             characters: self.characters + 1,
             accentuated: self.accentuated + one(is_set(c.flags, ACCENTUATED)),
+        }
+    }
+
+    // m characters with the same flags.
+    pub fn feed_run(self, f: u32, m: u32) -> TooManyAccentuated
+        requires { ⌜ Room self × (m ≤ LARGEST) ⌝ }
+        ensures { λ r. ⌜ r ≡ feedRun self f m ⌝ }
+    {
+        if !is_set(f, ALPHABETIC) {
+            return self;
+        }
+        TooManyAccentuated {
+            characters: self.characters + m,
+            accentuated: self.accentuated + pick(is_set(f, ACCENTUATED), m, 0),
         }
     }
 

@@ -1,6 +1,8 @@
 // Symbols: how many of the printable characters are punctuation or symbols, a symbol being worth two.
 ghost use mathlib.Core.Path.{_≡_};
-ghost use Rattle.md_counts.specs.Inner.TooManySymbolOrPunctuation.{marked, plain};
+ghost use Prim.Native.Nat.{_≤_};
+ghost use Rattle.base.specs.Inner.Limits.{LARGEST};
+ghost use Rattle.md_counts.specs.Inner.TooManySymbolOrPunctuation.{marked, plain, feedRun};
 ghost use Rattle.md_counts.specs.TooManySymbolOrPunctuation.{start, feed, printable, adds, countedSymbol, counts};
 ghost use Rattle.md_counts.specs.Inner.TooManySymbolOrPunctuation.{Room};
 ghost use Rattle.ratio.specs.Inner.Fraction.{Small};
@@ -114,6 +116,20 @@ impl TooManySymbolOrPunctuation {
             return self.printable(c);
         }
         self.plain(c.point)
+    }
+
+    // m characters that are printable and neither punctuation nor a symbol, at least one, the last of them `point`.
+    pub fn feed_run(self, m: u32, point: u32) -> TooManySymbolOrPunctuation
+        requires { ⌜ Room self × (m ≤ LARGEST) ⌝ }
+        ensures { λ r. ⌜ r ≡ feedRun self m point ⌝ }
+    {
+        let symbols = self.symbols;
+        TooManySymbolOrPunctuation {
+            characters: self.characters + m,
+            punctuation: self.punctuation,
+            symbols,
+            last: point,
+        }
     }
 
     pub fn counts(self) -> Counts

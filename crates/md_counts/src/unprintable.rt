@@ -1,7 +1,9 @@
 // Unprintable: how many of the characters are unprintable.
 ghost use mathlib.Core.Path.{_≡_};
+ghost use Prim.Native.Nat.{_≤_};
+ghost use Rattle.base.specs.Inner.Limits.{LARGEST};
 ghost use Rattle.md_counts.specs.Unprintable.{start, feed, counts};
-ghost use Rattle.md_counts.specs.Inner.Unprintable.{Room};
+ghost use Rattle.md_counts.specs.Inner.Unprintable.{Room, feedRun};
 ghost use Rattle.ratio.specs.Inner.Fraction.{Small};
 ghost use Rattle.ratio.specs.Fraction.{shareOf};
 use base::flags::UNPRINTABLE;
@@ -40,6 +42,17 @@ impl Unprintable {
         Unprintable {
             characters: self.characters + 1,
             unprintable: self.unprintable + one(is_set(c.flags, UNPRINTABLE)),
+        }
+    }
+
+    // m printable characters.
+    pub fn feed_run(self, m: u32) -> Unprintable
+        requires { ⌜ Room self × (m ≤ LARGEST) ⌝ }
+        ensures { λ r. ⌜ r ≡ feedRun self m ⌝ }
+    {
+        Unprintable {
+            characters: self.characters + m,
+            unprintable: self.unprintable,
         }
     }
 

@@ -16,6 +16,8 @@ use ratio::EightCounts;
 use ratio::Ratios;
 use ratio::rounding;
 
+pub mod runs;
+
 pub struct Detectors {
     pub symbols: TooManySymbolOrPunctuation,
     pub accents: TooManyAccentuated,

@@ -1,9 +1,10 @@
 // Doubled accents: how many accented Latin letters follow an accented one, both upper-case or of one base.
 ghost use mathlib.Core.Path.{_≡_};
-ghost use Prim.Native.Nat.{_<_};
+ghost use Prim.Native.Nat.{_<_, _≤_};
+ghost use Rattle.base.specs.Inner.Limits.{LARGEST};
 ghost use Rattle.md_neighbours.specs.SuspiciousDuplicateAccent.{start, feed, latinLetter, both, letter, counts};
 ghost use Rattle.md_neighbours.specs.Inner.SuspiciousDuplicateAccent.{Room};
-ghost use Rattle.md_neighbours.specs.Inner.SuspiciousDuplicateAccent.{plain};
+ghost use Rattle.md_neighbours.specs.Inner.SuspiciousDuplicateAccent.{plain, feedRun};
 ghost use Rattle.ratio.specs.Inner.Fraction.{Small};
 ghost use Rattle.ratio.specs.Fraction.{shareOf};
 use base::flags::ACCENTUATED;
@@ -102,6 +103,23 @@ impl SuspiciousDuplicateAccent {
             return self.letter(c);
         }
         self.plain(c)
+    }
+
+    // m characters with the same flags, no accented Latin letters, at least one; `base` is that of the last.
+    pub fn feed_run(self, f: u32, base: u32, m: u32) -> SuspiciousDuplicateAccent
+        requires { ⌜ Room self × (m ≤ LARGEST) ⌝ }
+        ensures { λ r. ⌜ r ≡ feedRun self f base m ⌝ }
+    {
+        if latin_letter(f) {
+            let successive = self.successive;
+            return SuspiciousDuplicateAccent {
+                characters: self.characters + m,
+                successive,
+                flags: f,
+                base,
+            };
+        }
+        self
     }
 
     pub fn counts(self) -> Counts

@@ -1,7 +1,9 @@
 // Ranges: how many printable characters follow one whose range does not go with theirs.
 ghost use mathlib.Core.Path.{_≡_};
-ghost use Rattle.md_neighbours.specs.SuspiciousRange.{start, feed, forgets, counts};
-ghost use Rattle.md_neighbours.specs.Inner.SuspiciousRange.{Room};
+ghost use Prim.Native.Nat.{_<_, _≤_};
+ghost use Rattle.base.specs.Inner.Limits.{LARGEST};
+ghost use Rattle.md_neighbours.specs.SuspiciousRange.{start, feed, forgets, forgotten, counts};
+ghost use Rattle.md_neighbours.specs.Inner.SuspiciousRange.{Room, feedRun};
 ghost use Rattle.ratio.specs.Inner.Fraction.{Small};
 ghost use Rattle.ratio.specs.Fraction.{shareOf};
 use base::flags::COMMON_SAFE;
@@ -10,6 +12,7 @@ use base::flags::UNPRINTABLE;
 use base::flags::WHITESPACE;
 use base::is_set;
 use base::one;
+use base::pick;
 use classes::Class;
 use ratio::Counts;
 use ratio::Fraction;
@@ -76,6 +79,33 @@ impl SuspiciousRange {
             suspicious: self.suspicious + one(self.seen & suspicious),
             seen: true,
             last: range,
+        }
+    }
+
+    // m printable characters of one range that do not forget, at least one. `suspicious` is as for `feed`, of the first of them; `again` is the pair
+    // table's bit for their range and itself.
+    pub fn feed_run(self, range: u32, m: u32, suspicious: bool, again: bool) -> SuspiciousRange
+        requires { ⌜ Room self × (0 < m) × (m ≤ LARGEST) ⌝ }
+        ensures { λ r. ⌜ r ≡ feedRun self range m suspicious again ⌝ }
+    {
+        SuspiciousRange {
+            characters: self.characters + m,
+            suspicious: self.suspicious + one(self.seen & suspicious) + pick(again, m - 1, 0),
+            seen: true,
+            last: range,
+        }
+    }
+
+    // A printable character that forgets the last one.
+    pub fn forget(self) -> SuspiciousRange
+        requires { ⌜ Room self ⌝ }
+        ensures { λ r. ⌜ r ≡ forgotten self ⌝ }
+    {
+        SuspiciousRange {
+            characters: self.characters + 1,
+            suspicious: self.suspicious,
+            seen: false,
+            last: 0, // no range
         }
     }
 

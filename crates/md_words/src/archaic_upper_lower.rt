@@ -1,6 +1,9 @@
 // Archaic case: how many characters stand where the case goes back and forth from letter to letter.
 ghost use mathlib.Core.Path.{_≡_};
+ghost use Prim.Native.Nat.{_≤_};
+ghost use Rattle.base.specs.Inner.Limits.{LARGEST};
 ghost use Rattle.md_words.specs.ArchaicUpperLower as archaic;
+ghost use Rattle.md_words.specs.Inner.ArchaicUpperLower as inner;
 ghost use Rattle.md_words.specs.Inner.ArchaicUpperLower.{Room};
 use base::flags::ALPHABETIC;
 use base::flags::ASCII;
@@ -9,6 +12,7 @@ use base::flags::CASE_VARIABLE;
 use base::flags::LOWERCASE;
 use base::flags::UPPERCASE;
 use base::is_set;
+use base::one;
 use base::pick;
 use classes::Class;
 use ratio::Counts;
@@ -115,6 +119,52 @@ impl ArchaicUpperLower {
             return self.separator(f);
         }
         self.letter(f)
+    }
+
+    // m letters with case and the same flags, at least one: only at the first can the case change.
+    pub fn feed_cased(self, f: u32, m: u32) -> ArchaicUpperLower
+        requires { ⌜ Room self × (m ≤ LARGEST) ⌝ }
+        ensures { λ r. ⌜ r ≡ inner.feedCased self f m ⌝ }
+    {
+        let changed = changes(self.last, f);
+        let ascii = self.ascii & is_set(f, ASCII);
+        ArchaicUpperLower {
+            characters: self.characters + m,
+            since: self.since + m,
+            run: self.run + pick(changed & self.buf, 2, 0),
+            total: self.total,
+            last: f,
+            ascii,
+            buf: changed & !self.buf & (m == 1),
+        }
+    }
+
+    // The runs counted once a separator has come. Most often there is none to add.
+    fn closed_total(self, f: u32) -> u32
+        requires { ⌜ Room self ⌝ }
+        ensures { λ r. ⌜ r ≡ inner.closedTotal self f ⌝ }
+    {
+        if self.run == 0 {
+            return self.total;
+        }
+        self.total + pick(self.counted(f), self.run, 0)
+    }
+
+    // m characters with the same flags that are no letters with case, at least one: each is a separator or a letter seen, in turn.
+    pub fn feed_uncased(self, f: u32, m: u32) -> ArchaicUpperLower
+        requires { ⌜ Room self × (m ≤ LARGEST) ⌝ }
+        ensures { λ r. ⌜ r ≡ inner.feedUncased self f m ⌝ }
+    {
+        let since = (m + one(0 < self.since)) % 2;
+        ArchaicUpperLower {
+            characters: self.characters + m,
+            since,
+            run: 0,
+            total: self.closed_total(f),
+            last: pick(since == 0, 0, f),
+            ascii: (since == 0) | is_set(f, ASCII),
+            buf: false,
+        }
     }
 
     // The runs counted over all characters.

@@ -1,6 +1,9 @@
 // Weird words: how many of the characters in words stand in bad ones.
 ghost use mathlib.Core.Path.{_≡_};
+ghost use Prim.Native.Nat.{_≤_};
+ghost use Rattle.base.specs.Inner.Limits.{LARGEST};
 ghost use Rattle.md_words.specs.SuperWeirdWord as weird;
+ghost use Rattle.md_words.specs.Inner.SuperWeirdWord as inner;
 ghost use Rattle.md_words.specs.Inner.SuperWeirdWord.{Room};
 use base::flags::ACCENTUATED;
 use base::flags::ASCII_ALPHABETIC;
@@ -224,6 +227,37 @@ impl SuperWeirdWord {
             return self;
         }
         self.inside(f)
+    }
+
+    // m letters with the same flags enter the word, at least one.
+    fn letters(self, f: u32, m: u32) -> SuperWeirdWord
+        requires { ⌜ Room self × (m ≤ LARGEST) ⌝ }
+        ensures { λ r. ⌜ r ≡ inner.letters self f m ⌝ }
+    {
+        let watch = self.watch | watched(f);
+        SuperWeirdWord {
+            characters: self.characters,
+            words: self.words,
+            foreign: self.foreign,
+            spoilt: self.spoilt,
+            bad: self.bad,
+            watch,
+            accents: self.accents + pick(is_set(f, ACCENTUATED), m, 0),
+            uppercase: self.uppercase + pick(is_set(f, UPPERCASE), m, 0),
+            length: self.length + m,
+            last: f,
+        }
+    }
+
+    // m characters with the same flags, at least one: letters that enter the word, or characters that are passed over.
+    pub fn feed_run(self, f: u32, m: u32) -> SuperWeirdWord
+        requires { ⌜ Room self × (m ≤ LARGEST) ⌝ }
+        ensures { λ r. ⌜ r ≡ inner.feedRun self f m ⌝ }
+    {
+        if !is_set(f, ASCII_ALPHABETIC) {
+            return self;
+        }
+        self.letters(f, m)
     }
 
     // The characters of bad words over those of all words.

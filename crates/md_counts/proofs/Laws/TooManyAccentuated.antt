@@ -1,18 +1,22 @@
 -- How large the counts of accents can be: the accented letters are at most the letters. So a step has room, the counts are small, and
--- its ratio is at most 1.
+-- its ratio is at most 1. A run is the same as feeding its characters one by one (`run-one`, `run-more`).
 -- Assumes nothing.
 use Prim.Native.Nat.{ℕ, _+_, _*_, _≤_}
+use mathlib.Core.Path.{_≡_, refl}
+use mathlib.Core.Bool.{Bool, true, false, cond}
+use native.Mathlib.Nat.{add-zero, add-assoc}
 use native.Mathlib.Omega.{arith}
 use Rattle.base.specs.Flags.{has, ALPHABETIC, ACCENTUATED}
 use Rattle.base.specs.Inner.Limits.{LARGEST}
+use Rattle.base.specs.Numbers.{bump}
 use Rattle.base.proofs.Laws.Numbers.{bump-small}
-use Rattle.base.proofs.Laws.Tests.{cond-both}
+use Rattle.base.proofs.Laws.Tests.{by-bool, cond-both}
 use Rattle.classes.specs.declared.Class.{Class}
 use Rattle.ratio.specs.Inner.Fraction.{Small}
 use Rattle.ratio.specs.Fraction.{shareOf}
 use Rattle.md_counts.specs.declared.too_many_accentuated.TooManyAccentuated.{TooManyAccentuated}
 use Rattle.md_counts.specs.TooManyAccentuated.{start, counted, feed, counts}
-use Rattle.md_counts.specs.Inner.TooManyAccentuated.{Room}
+use Rattle.md_counts.specs.Inner.TooManyAccentuated.{Room, countedRun, feedRun}
 
 -- what holds after k characters
 pub record Within (k : ℕ) (s : TooManyAccentuated) : Type 0 where
@@ -46,3 +50,22 @@ module _ (k : ℕ) (s : TooManyAccentuated) (w : Within k s) where
   pub counts-bound : counts s .numerator ≤ 1 * counts s .denominator
   unfolding counts
   counts-bound = omega arith
+
+-- runs: letters with the same flags are all accented or none
+pub more : (b : Bool) (n m : ℕ) → n + cond b (m + 2) 0 ≡ n + cond b (m + 1) 0 + bump b
+more true n m = simp add-assoc
+more false n m = simp add-zero
+
+module _ (s : TooManyAccentuated) (c : Class) where
+  pub run-one : feedRun s (c .flags) 1 ≡ feed s c
+  unfolding feedRun countedRun feed counted
+  run-one = refl
+
+  pub run-more : (m : ℕ) → feedRun s (c .flags) (m + 2) ≡ feed (feedRun s (c .flags) (m + 1)) c
+  unfolding feedRun countedRun feed counted
+  run-more m = by-bool (has (c .flags) ALPHABETIC) (λ p. simp (p, more, add-assoc)) (λ p. simp p)
+
+-- a character that is no letter is passed over
+pub feed-passes : (s : TooManyAccentuated) (c : Class) → has (c .flags) ALPHABETIC ≡ false → feed s c ≡ s
+unfolding feed
+feed-passes s c e = rw e

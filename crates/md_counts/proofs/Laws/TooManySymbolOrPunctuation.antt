@@ -1,11 +1,12 @@
 -- How large the counts of symbols can be: a character that counts is punctuation or a symbol and not both, so the two together are at most
 -- the printable characters. So a step has room, the counts are small, and its ratio is at most 2. And `plain-printable`: a
--- character that is neither punctuation nor a symbol adds only to n, which is the code's short way.
+-- character that is neither punctuation nor a symbol adds only to n, which is the code's short way. A run of
+-- such characters is the same as feeding them one by one (`run-one`, `run-more`).
 -- Assumes nothing.
 use Prim.Native.Nat.{ℕ, _+_, _*_, _≤_}
-use mathlib.Core.Path.{_≡_, refl}
+use mathlib.Core.Path.{_≡_, refl, sym}
 use mathlib.Core.Bool.{Bool, true, false, _&&_, _||_, and-false}
-use native.Mathlib.Nat.{add-zero}
+use native.Mathlib.Nat.{add-zero, add-assoc}
 use native.Mathlib.Omega.{arith}
 use Rattle.base.specs.Flags.{has, UNPRINTABLE, PUNCTUATION, SYMBOL}
 use Rattle.base.specs.Inner.Limits.{LARGEST}
@@ -17,7 +18,7 @@ use Rattle.ratio.specs.Inner.Fraction.{Small}
 use Rattle.ratio.specs.Fraction.{shareOf}
 use Rattle.md_counts.specs.declared.too_many_symbol_or_punctuation.TooManySymbolOrPunctuation.{TooManySymbolOrPunctuation}
 use Rattle.md_counts.specs.TooManySymbolOrPunctuation.{start, adds, countedSymbol, printable, feed, counts}
-use Rattle.md_counts.specs.Inner.TooManySymbolOrPunctuation.{Room, marked, plain}
+use Rattle.md_counts.specs.Inner.TooManySymbolOrPunctuation.{Room, marked, plain, feedRun}
 
 -- what holds after k characters
 pub record Within (k : ℕ) (s : TooManySymbolOrPunctuation) : Type 0 where
@@ -68,3 +69,13 @@ unfolding marked plain printable countedSymbol
 plain-printable s c e =
     let n = neither (has (c .flags) PUNCTUATION) (has (c .flags) SYMBOL) e in
     simp (n .0, n .1, and-false, add-zero)
+
+-- runs of such characters
+module _ (s : TooManySymbolOrPunctuation) (c : Class) (e : has (c .flags) UNPRINTABLE ≡ false) (n : marked (c .flags) ≡ false) where
+  pub run-one : feedRun s 1 (c .point) ≡ feed s c
+  unfolding feedRun feed plain
+  run-one = simp e (plain-printable s c n)
+
+  pub run-more : (m p : ℕ) → feedRun s (m + 2) (c .point) ≡ feed (feedRun s (m + 1) p) c
+  unfolding feedRun feed plain
+  run-more m p = simp (e, add-assoc, sym (plain-printable (feedRun s (m + 1) p) c n))

@@ -1,4 +1,4 @@
--- Words of inner contracts, beside TooManySymbolOrPunctuation: `Room`, `marked`, `plain`. No public promise rests on them.
+-- Words of inner contracts, beside TooManySymbolOrPunctuation: `Room`, `marked`, `plain`, `feedRun`. No public promise rests on them.
 -- Assumes nothing.
 use Prim.Native.Nat.{_≤_, ℕ, _+_}
 use mathlib.Core.Bool.{Bool, _||_}
@@ -19,3 +19,7 @@ marked flags = has flags PUNCTUATION || has flags SYMBOL
 -- any other printable character adds only to n
 unfoldable pub plain : TooManySymbolOrPunctuation → ℕ → TooManySymbolOrPunctuation
 plain s point = record { characters = s .characters + 1; punctuation = s .punctuation; symbols = s .symbols; last = point }
+
+-- m such characters, at least one, the last of them `point`
+unfoldable pub feedRun : TooManySymbolOrPunctuation → ℕ → ℕ → TooManySymbolOrPunctuation
+feedRun s m point = record { characters = s .characters + m; punctuation = s .punctuation; symbols = s .symbols; last = point }

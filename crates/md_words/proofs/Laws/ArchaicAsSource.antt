@@ -5,7 +5,7 @@
 -- Assumes nothing.
 use Prim.Native.Nat.{ℕ, _+_}
 use mathlib.Core.Path.{_≡_, refl, sym, _∙_}
-use mathlib.Core.Bool.{Bool, true, false, cond, not, _&&_, and-false}
+use mathlib.Core.Bool.{Bool, true, false, cond, not, _&&_}
 use mathlib.Core.List.{List, [], _∷_}
 use native.Mathlib.Nat.{add-zero}
 use lib.Dec.{leb, ltb}
@@ -14,6 +14,7 @@ use Rattle.base.proofs.Laws.Tests.{by-bool}
 use Rattle.classes.specs.declared.Class.{Class}
 use Rattle.md_words.specs.declared.archaic_upper_lower.ArchaicUpperLower.{ArchaicUpperLower}
 use Rattle.md_words.specs.ArchaicUpperLower.{LONGEST-RUN, start, separates, counted, separator, changes, letter, feed}
+use Rattle.md_words.proofs.Laws.ArchaicUpperLower.{no-change}
 
 -- `last_alpha_seen: Option<MessDetectorChar>`
 pub data Seen : Type 0 where
@@ -89,11 +90,6 @@ pub record Same (s : ArchaicUpperLower) (o : Source) : Type 0 where
   pub ascii : s .ascii ≡ o .ascii
   pub buf : s .buf ≡ o .buf
   pub last : LastIs (o .last) s
-
--- after none the case does not change
-no-change : (f : ℕ) → changes 0 f ≡ false
-unfolding changes has
-no-change f = simp and-false
 
 module _ (s : ArchaicUpperLower) (c : Class) where
   run-alike : (seen : Seen) → LastIs seen s → s .run + cond (changes (s .last) (c .flags) && s .buf) 2 0 ≡ runAfter seen (s .run) (s .buf) c

@@ -1,20 +1,24 @@
 -- How large the counts of weird words can be: after k characters at most k stand in words, and those of bad words are among them. So a
--- step has room, the counts are small, and its ratio is at most 1.
+-- step has room, the counts are small, and its ratio is at most 1. A run is the same as feeding its characters one by one (`run-one`, `run-more`).
 -- Assumes nothing.
 use Prim.Native.Nat.{ℕ, _+_, _*_, _≤_}
-use mathlib.Core.Bool.{cond, _||_}
+use mathlib.Core.Path.{_≡_, refl}
+use mathlib.Core.Bool.{Bool, true, false, cond, _||_, and-false, or-assoc, or-self}
+use native.Mathlib.Nat.{add-zero, add-assoc}
 use native.Mathlib.Omega.{arith}
 use lib.Dec.{eqb}
-use Rattle.base.specs.Flags.{has, ASCII-ALPHABETIC, ACCENTUATED, UPPERCASE}
+use Rattle.base.specs.Flags.{has, SYMBOL, ASCII-ALPHABETIC, ACCENTUATED, UPPERCASE}
 use Rattle.base.specs.Inner.Limits.{LARGEST}
+use Rattle.base.specs.Numbers.{bump}
 use Rattle.base.proofs.Laws.Numbers.{bump-small}
-use Rattle.base.proofs.Laws.Tests.{cond-both}
+use Rattle.base.proofs.Laws.Tests.{by-bool, cond-both}
 use Rattle.classes.specs.declared.Class.{Class}
 use Rattle.ratio.specs.Inner.Fraction.{Small}
 use Rattle.ratio.specs.Fraction.{shareOf}
 use Rattle.md_words.specs.declared.super_weird_word.SuperWeirdWord.{SuperWeirdWord}
 use Rattle.md_words.specs.SuperWeirdWord.{start, closes, counted, letter, symbol, accented, capital, long, close, inside, feed, counts}
-use Rattle.md_words.specs.Inner.SuperWeirdWord.{Room}
+use Rattle.md_words.specs.Inner.SuperWeirdWord.{Room, letters, feedRun}
+use Rattle.md_words.proofs.Laws.ArchaicUpperLower.{cond-alike}
 
 -- what holds after k characters
 pub record Within (k : ℕ) (s : SuperWeirdWord) : Type 0 where
@@ -124,3 +128,39 @@ module _ (k : ℕ) (s : SuperWeirdWord) (w : Within k s) where
   pub counts-bound : counts s .numerator ≤ 1 * counts s .denominator
   unfolding counts
   counts-bound = omega arith
+
+-- runs: letters with the same flags enter the word; characters that neither close it nor enter it are passed over
+letters-one : (s : SuperWeirdWord) (f : ℕ) → letters s f 1 ≡ letter s f
+unfolding letters letter
+letters-one s f = refl
+
+letters-more : (s : SuperWeirdWord) (f m : ℕ) → letters s f (m + 2) ≡ letter (letters s f (m + 1)) f
+unfolding letters letter
+letters-more s f m = simp (or-assoc, or-self, more, add-assoc)
+  where
+    more : (b : Bool) (n m : ℕ) → n + cond b (m + 2) 0 ≡ n + cond b (m + 1) 0 + bump b
+    more true n m = simp add-assoc
+    more false n m = simp add-zero
+
+feed-letter : (s : SuperWeirdWord) (c : Class) → has (c .flags) ASCII-ALPHABETIC ≡ true → feed s c ≡ letter s (c .flags)
+unfolding feed
+feed-letter s c p = rw p
+
+module _ (s : SuperWeirdWord) (c : Class) (e : closes (c .flags) ≡ false) (y : has (c .flags) SYMBOL ≡ false) where
+  pub feed-passes : has (c .flags) ASCII-ALPHABETIC ≡ false → feed s c ≡ s
+  unfolding feed inside counted
+  feed-passes p = simp (p, e, y, and-false, cond-alike)
+
+  pub run-one : feedRun s (c .flags) 1 ≡ feed s c
+  unfolding feedRun
+  run-one =
+      by-bool (has (c .flags) ASCII-ALPHABETIC)
+      (λ p. simp (p, feed-letter s c p, letters-one s (c .flags)))
+      (λ p. simp (p, feed-passes p))
+
+  pub run-more : (m : ℕ) → feedRun s (c .flags) (m + 2) ≡ feed (feedRun s (c .flags) (m + 1)) c
+  unfolding feedRun
+  run-more m =
+      by-bool (has (c .flags) ASCII-ALPHABETIC)
+      (λ p. simp (p, feed-letter (letters s (c .flags) (m + 1)) c p, letters-more s (c .flags) m))
+      (λ p. simp (p, feed-passes p))

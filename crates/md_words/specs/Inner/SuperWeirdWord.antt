@@ -1,8 +1,11 @@
--- Words of inner contracts, beside SuperWeirdWord: `Room`. No public promise rests on them.
+-- Words of inner contracts, beside SuperWeirdWord: `Room`, and what a run of characters with the same flags comes to. No public promise rests on them.
 -- Assumes nothing.
-use Prim.Native.Nat.{_≤_}
+use Prim.Native.Nat.{ℕ, _+_, _≤_}
+use mathlib.Core.Bool.{cond, _||_}
+use Rattle.base.specs.Flags.{has, ASCII-ALPHABETIC, ACCENTUATED, UPPERCASE}
 use Rattle.ratio.specs.Inner.Fraction.{MOST-NUM}
 use Rattle.md_words.specs.declared.super_weird_word.SuperWeirdWord.{SuperWeirdWord}
+use Rattle.md_words.specs.SuperWeirdWord.{watched}
 
 -- room for one character more in each count
 pub record Room (s : SuperWeirdWord) : Type 0 where
@@ -13,3 +16,23 @@ pub record Room (s : SuperWeirdWord) : Type 0 where
   pub accents : s .accents ≤ MOST-NUM
   pub uppercase : s .uppercase ≤ MOST-NUM
   pub length : s .length ≤ MOST-NUM
+
+-- m letters enter the word, at least one
+unfoldable pub letters : SuperWeirdWord → ℕ → ℕ → SuperWeirdWord
+letters s f m =
+    record {
+      characters = s .characters;
+      words = s .words;
+      foreign = s .foreign;
+      spoilt = s .spoilt;
+      bad = s .bad;
+      watch = s .watch || watched f;
+      accents = s .accents + cond (has f ACCENTUATED) m 0;
+      uppercase = s .uppercase + cond (has f UPPERCASE) m 0;
+      length = s .length + m;
+      last = f;
+    }
+
+-- m letters, or m characters that are passed over
+unfoldable pub feedRun : SuperWeirdWord → ℕ → ℕ → SuperWeirdWord
+feedRun s f m = cond (has f ASCII-ALPHABETIC) (letters s f m) s

@@ -1,0 +1,12 @@
+-- Each field is the definition's, and the count that grows has room. Assumes nothing.
+use Rattle.md_words.specs.Inner.ArchaicUpperLower.{inTurn, seenLast}
+use borrow.Author.Needs.{needs}
+use Rattle.md_words.proofs.archaic_upper_lower.ArchaicUpperLower.feed_uncased.Statement.{statement}
+use Rattle.md_words.proofs.archaic_upper_lower.ArchaicUpperLower.feed_uncased.Tie as tie
+
+returns : tie.Need-returns
+unfolding inTurn seenLast
+returns c = cc
+
+pub feed-uncased-spec : {M : Type 1} → statement M
+feed-uncased-spec = tie.close (tie.spec (λ c κs. search needs) (λ c. search needs) (λ c. search needs) (λ c κs. search needs) (λ c κs. search needs) (λ c κs. search needs) returns)
