@@ -1,0 +1,13 @@
+pub mod Bytes
+pub mod Calls
+pub mod FirstUse
+pub mod Firsts
+pub mod Form
+pub mod Numbering
+pub mod Own
+pub mod Packed
+pub mod Packing
+pub mod Records
+pub mod Sound
+pub mod Unpacked
+pub mod Unpacking

@@ -1,0 +1,120 @@
+-- The letters that are (0, 0) or a repeat: what each way of the code to tell it answers.
+-- Assumes nothing.
+use Prim.Native.Nat.{ℕ, _+_, _≤_, _<_}
+use mathlib.Core.Path.{_≡_, refl, sym, ap, _∙_}
+use mathlib.Core.Bool.{Bool, true, false, not, _&&_, _||_}
+use mathlib.Core.List.{List}
+use native.Mathlib.Omega.{arith}
+use lib.ListN.{length, getD, set, replicate, length-set, length-replicate}
+use lib.Seq.{getD-set-same, getD-set-other}
+use lib.Dec.{eqb, ltb}
+use borrow.Author.Tests.{eqb-true, eqb-false, eq-eqb, ne-eqb, le-ltb, lt-ltb, ltb-true}
+use Rattle.base.specs.First.{first, each}
+use Rattle.base.proofs.Laws.First.{first-none, first-within, each-at, each-more}
+use Rattle.base.proofs.Laws.Tests.{by-bool, split, and-l, and-r, and-yes}
+use Rattle.class_compact.specs.Form.{compactRecords, lettersIn, placeAt, baseAt, lowerAt}
+use Rattle.class_compact.specs.Check.{noLetters, lettersAre, repeated, unused, early, badLetters, firstUse}
+use Rattle.class_compact.specs.Inner.Form.{MARKS, markAt}
+use Rattle.class_compact.specs.Inner.Marked.{Marked}
+use Rattle.class_compact.specs.Inner.Sound.{isOwn, allOwn, Use, Told}
+use Rattle.class_compact.proofs.Laws.Firsts.{clash, or-no-l}
+
+module _ (l : List ℕ) (k base lower : ℕ) (b : base ≡ baseAt l k) (w : lower ≡ lowerAt l k) where
+  pub own-none : (eqb base 0 && eqb lower 0) ≡ true → false ≡ isOwn l k
+  unfolding isOwn noLetters
+  own-none h = let z : (eqb (baseAt l k) 0 && eqb (lowerAt l k) 0) ≡ true = rw (b, w) at h in rw z
+
+  module _ (h : (eqb base 0 && eqb lower 0) ≡ false) where
+    some : noLetters l k ≡ false
+    unfolding noLetters
+    some = rw (b, w) at h
+
+    pub own-found : (found : ℕ) → found ≡ first (lettersAre l base lower) k → eqb found k ≡ isOwn l k
+    unfolding isOwn repeated
+    own-found found e =
+        let f : found ≡ first (lettersAre l (baseAt l k) (lowerAt l k)) k = rw (b, w) at e in
+        let m : found ≤ k = rw f (first-within (lettersAre l (baseAt l k) (lowerAt l k)) k) in
+        rw (some, ← f) (split found k
+        (λ a. rw (lt-ltb found k a) (ne-eqb found k (λ z. omega arith)))
+        (λ a. rw (le-ltb found k a) (eq-eqb found k (omega arith))))
+
+    -- no mark, no repeat
+    other : (marks : List Bool) → Marked l k marks → getD marks (markAt l k) false ≡ false
+        → (j : ℕ) → j < k → lettersAre l (baseAt l k) (lowerAt l k) j ≡ false
+    unfolding lettersAre markAt
+    other marks m z j i =
+        by-bool (eqb (baseAt l j) (baseAt l k) && eqb (lowerAt l j) (lowerAt l k))
+        (λ s. let x : baseAt l j ≡ baseAt l k = eqb-true _ _ (and-l (eqb (baseAt l j) (baseAt l k)) (eqb (lowerAt l j) (lowerAt l k)) s) in
+        let y : lowerAt l j ≡ lowerAt l k = eqb-true _ _ (and-r (eqb (baseAt l j) (baseAt l k)) (eqb (lowerAt l j) (lowerAt l k)) s) in
+        clash (m .set j i) (rw (x, y) z))
+        (λ s. s)
+
+    pub own-unmarked : (marks : List Bool) (mark : ℕ) → Marked l k marks → mark ≡ markAt l k → getD marks mark false ≡ false → true ≡ isOwn l k
+    unfolding isOwn repeated
+    own-unmarked marks mark m e z =
+        let q : first (lettersAre l (baseAt l k) (lowerAt l k)) k ≡ k = first-none _ _ (other marks m (rw e at z)) in
+        rw (some, q, le-ltb k k (omega arith))
+
+-- all of them
+pub record Owning (l : List ℕ) (marks : List Bool) (k : ℕ) : Type 0 where
+  pub below : k ≤ lettersIn l
+  pub marked : Marked l k marks
+  pub all : each (isOwn l) k ≡ true
+
+module _ (l : List ℕ) where
+  pub owning-start : Owning l (replicate MARKS false) 0
+  unfolding each
+  owning-start =
+      record { below = omega arith; marked = record { size = length-replicate MARKS false; set = λ j h. absurd (no j h) }; all = refl }
+    where
+      no : (j : ℕ) → j < 0 → ⊥
+      no j h = omega arith
+
+  module _ (marks : List Bool) (k : ℕ) (o : Owning l marks k) where
+    pub owning-more : (mark : ℕ) → k < lettersIn l → isOwn l k ≡ true → mark ≡ markAt l k → mark < MARKS → Owning l (set marks mark true) (k + 1)
+    owning-more mark h e m small =
+        record {
+          below = omega arith;
+          marked = record { size = length-set marks mark true ∙ o .marked .size; set = set-for };
+          all = sym (each-more (isOwn l) k) ∙ and-yes (o .all) e;
+        }
+      where
+        set-for : (j : ℕ) → j < k + 1 → getD (set marks mark true) (markAt l j) false ≡ true
+        set-for j i =
+            by-bool (eqb (markAt l j) mark)
+            (λ s. rw (eqb-true (markAt l j) mark s) (getD-set-same marks mark true false (omega (arith, o .marked .size, small))))
+            (λ s. getD-set-other marks mark (markAt l j) true false (eqb-false (markAt l j) mark s) ∙ split j k
+            (λ a. o .marked .set j a)
+            (λ a. let z : j ≡ k = omega arith in absurd (eqb-false (markAt l j) mark s (rw z (sym m)))))
+
+    pub owning-end : lettersIn l ≤ k → true ≡ allOwn l
+    unfolding allOwn
+    owning-end h = let z : k ≡ lettersIn l = omega (arith, o .below) in sym (rw z at (o .all))
+
+  pub owning-fails : (k : ℕ) → k < lettersIn l → isOwn l k ≡ false → false ≡ allOwn l
+  unfolding allOwn
+  owning-fails k h e = by-bool (each (isOwn l) (lettersIn l)) (λ s. clash (each-at (isOwn l) (lettersIn l) s k h) e) (λ s. sym s)
+
+-- ---- one by one
+module _ (c : List ℕ) (k : ℕ) where
+  pub early-first : k ≡ 0 → false ≡ early c k
+  unfolding early
+  early-first e = rw e
+
+  pub early-later : (here next : ℕ) → (k ≡ 0 → ⊥) → here ≡ firstUse c (k + 1) → next ≡ firstUse c k → ltb here next ≡ early c k
+  unfolding early
+  early-later here next h e f = let z : ltb 0 k ≡ true = lt-ltb 0 k (omega arith) in rw (z, e, f)
+
+  below : (here : ℕ) → here ≡ firstUse c (k + 1) → (here ≡ compactRecords c → ⊥) → here < compactRecords c
+  unfolding firstUse
+  below here e n = let m : here ≤ compactRecords c = rw e (first-within (λ i. eqb (placeAt c i) (k + 1)) (compactRecords c)) in omega arith
+
+  pub told : (l : List ℕ) (base lower here found : ℕ) (b : Bool) → base ≡ baseAt l k → lower ≡ lowerAt l k → Use c (k + 1) here
+      → found ≡ first (lettersAre l base lower) k → b ≡ early c k
+      → Told c l k (eqb here (compactRecords c) || ((eqb base 0 && eqb lower 0) || (ltb found k || b)))
+  unfolding badLetters unused noLetters repeated
+  told l base lower here found b e f u g h =
+      record {
+        is = rw (h, g, e, f, u .is);
+        small = λ z. u .small (below here (u .is) (eqb-false here (compactRecords c) (or-no-l _ _ z)));
+      }

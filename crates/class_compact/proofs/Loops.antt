@@ -1,0 +1,4 @@
+pub mod Gathering
+pub mod InFirstUse
+pub mod Laying
+pub mod Seeking

@@ -1,0 +1,12 @@
+-- The case in which nothing is refused. Assumes nothing.
+use mathlib.Core.Path.{refl}
+use Rattle.class_compact.specs.Calls.{packedUnless}
+use Rattle.class_compact.proofs.packing_done.Statement.{statement}
+use Rattle.class_compact.proofs.packing_done.Tie as tie
+
+returns : tie.Need-returns
+unfolding packedUnless
+returns c = refl
+
+pub packing-done-spec : {M : Type 1} → statement M
+packing-done-spec = tie.close (tie.spec returns)

@@ -1,0 +1,12 @@
+-- The same tests. Assumes nothing.
+use mathlib.Core.Path.{refl}
+use Rattle.class_compact.specs.Inner.Form.{wrongList}
+use Rattle.class_compact.proofs.wrong_list.Statement.{statement}
+use Rattle.class_compact.proofs.wrong_list.Tie as tie
+
+returns : tie.Need-returns
+unfolding wrongList
+returns c = refl
+
+pub wrong-list-spec : {M : Type 1} → statement M
+wrong-list-spec = tie.close (tie.spec returns)

@@ -1,0 +1,4 @@
+pub mod Form
+pub mod Gathered
+pub mod Marked
+pub mod Sound
