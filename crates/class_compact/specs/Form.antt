@@ -2,7 +2,7 @@
 -- 1-based place of a (base, lower) pair of u32 in a second lent list of 8-byte records". That list is called `letters` here, since the pair table of
 -- ranges is `pairs`. When a table of this form is good stands in Check.
 -- Assumes nothing.
-use Prim.Native.Nat.{ℕ, zero, suc, _+_, _*_, _/_}
+use Prim.Native.Nat.{ℕ, zero, suc, _+_, _*_, _/_, _<_}
 use mathlib.Core.List.{List, [], _∷_, _++_}
 use lib.ListN.{length, getD}
 use Rattle.base.specs.LittleEndian.{le16, le32}
@@ -37,6 +37,10 @@ baseAt l k = le32 l (k * LETTERS-RECORD)
 
 unfoldable pub lowerAt : List ℕ → ℕ → ℕ
 lowerAt l k = le32 l (k * LETTERS-RECORD + 4)
+
+-- a list of bytes, as every lent one is: each element is below 256
+abbrev pub Bytes : List ℕ → Type 0
+Bytes t = (k : ℕ) → getD t k 0 < 256
 
 -- n bytes of a table from a place on, 0 past its end
 unfoldable pub bytesFrom : List ℕ → ℕ → ℕ → List ℕ

@@ -17,7 +17,7 @@ use base::refusals::BAD_CLASSES;
 use base::refuse;
 
 // The first record whose letters are missing, or the number of records.
-fn first_lacking(records: &[u8], letters: &[u8]) -> usize
+fn first_unlettered(records: &[u8], letters: &[u8]) -> usize
     ensures { λ r. ⌜ r ≡ inner.firstMissing (now (records .entry)) (now (letters .entry)) ⌝ }
 {
     let n = records.len() / COMPACT_RECORD;
@@ -52,7 +52,7 @@ fn first_bad_record(records: &[u8], letters: &[u8], table: &[u8]) -> usize
     requires { ⌜ Filled (now records) (now letters) (now table) ⌝ }
     ensures { λ r. ⌜ r ≡ checks.firstBadRecord (now (records .entry)) (now (letters .entry)) ⌝ }
 {
-    let missing = first_lacking(records, letters);
+    let missing = first_unlettered(records, letters);
     let bad = class_records::first_bad(table);
     if missing < bad { missing } else { bad }
 }

@@ -8,12 +8,8 @@ use native.Mathlib.Omega.{arith}
 use lib.ListN.{getD, replicate}
 use Rattle.base.specs.LittleEndian.{le16, le32}
 use Rattle.ring.specs.Record.{leBytes}
-use Rattle.class_compact.specs.Form.{bytesFrom}
+use Rattle.class_compact.specs.Form.{Bytes, bytesFrom}
 use Rattle.class_compact.proofs.Laws.Form.{bytes-same, bytes-split}
-
--- every element is a byte
-abbrev pub Bytes : List ℕ → Type 0
-Bytes t = (k : ℕ) → getD t k 0 < 256
 
 four : (a b c d x y z w : ℕ) → a < 256 → b < 256 → c < 256 → d < 256 → x < 256 → y < 256 → z < 256 → w < 256
     → a + 256 * b + 65536 * c + 16777216 * d ≡ x + 256 * y + 65536 * z + 16777216 * w → (a ≡ x) × (b ≡ y) × (c ≡ z) × (d ≡ w)

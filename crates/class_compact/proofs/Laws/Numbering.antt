@@ -255,7 +255,8 @@ module _ (t : List ℕ) where
         let g : r .at < firstAlike t i = earlier (r .at) (r .number) in
         let x : baseAt (lettersBefore t i) k ≡ recordAt t (r .at) .base = ap (baseAt (lettersBefore t i)) (sym (r .number)) ∙ base-put (r .at) i (r .new) (r .below) in
         let y : lowerAt (lettersBefore t i) k ≡ recordAt t (r .at) .lower = ap (lowerAt (lettersBefore t i)) (sym (r .number)) ∙ lower-put (r .at) i (r .new) (r .below) in
-        clash (alike-of i (r .at) (sym x ∙ both (baseAt (lettersBefore t i) k) (lowerAt (lettersBefore t i) k) (recordAt t i .base) (recordAt t i .lower) s .0) (sym y ∙ both (baseAt (lettersBefore t i) k) (lowerAt (lettersBefore t i) k) (recordAt t i .base) (recordAt t i .lower) s .1)) (alike-not i h (r .at) g))
+        let e = both (baseAt (lettersBefore t i) k) (lowerAt (lettersBefore t i) k) (recordAt t i .base) (recordAt t i .lower) s in
+        clash (alike-of i (r .at) (sym x ∙ e .0) (sym y ∙ e .1)) (alike-not i h (r .at) g))
         (λ s. s)
       where
         earlier : (g : ℕ) → before g ≡ k → g < firstAlike t i

@@ -26,7 +26,8 @@ use Rattle.classes.proofs.Laws.Check.{record-refused, passed, free-good}
 use Rattle.class_compact.specs.Form.{COMPACT-RECORD, LETTERS-RECORD, compactRecords, lettersIn, placeAt}
 use Rattle.class_compact.specs.Unpacked.{unpacked}
 use Rattle.class_compact.specs.Check as checks
-use Rattle.class_compact.specs.Check.{missing, badRecordAt, firstBadRecord, unused, noLetters, repeated, early, badLetters, firstBadLetters, badCompactLength, badCompactNumber, badCompactRecord, badLettersLength, badLettersRecord, badCompact}
+use Rattle.class_compact.specs.Check.{missing, badRecordAt, firstBadRecord, unused, noLetters, repeated, early, badLetters, firstBadLetters, badCompactLength, badCompactNumber}
+use Rattle.class_compact.specs.Check.{badCompactRecord, badLettersLength, badLettersRecord, badCompact}
 use Rattle.class_compact.specs.Inner.Form.{Sized, wrongList}
 use Rattle.class_compact.specs.Inner.Sound.{inFirstUse, isOwn, allOwn, sound, beyondTable}
 use Rattle.class_compact.proofs.Laws.Firsts.{clash, first-same, or-none, or-no-l, or-no-r}

@@ -18,17 +18,18 @@ use Rattle.base.proofs.Laws.Tests.{by-bool, split, and-l, and-r, and-yes, withi
 use Rattle.class_records.specs.Records.{records, recordAt, goodTable}
 use Rattle.classes.proofs.Laws.Check.{free-good}
 use Rattle.ring.specs.Record.{leBytes}
-use Rattle.class_compact.specs.Form.{COMPACT-RECORD, SHARED-BYTES, LETTERS-RECORD, compactRecords, lettersIn, placeAt, baseAt, lowerAt, bytesFrom, joined}
+use Rattle.class_compact.specs.Form.{COMPACT-RECORD, Bytes, SHARED-BYTES, LETTERS-RECORD, compactRecords, lettersIn, placeAt, baseAt, lowerAt, bytesFrom, joined}
 use Rattle.class_compact.specs.Unpacked.{lettersBytes, expansion, unpacked}
 use Rattle.class_compact.specs.Check.{noLetters, lettersAre, repeated, badCompact}
 use Rattle.class_compact.specs.Packed.{plain, alike, firstAlike, isNew, lettersBefore, packedPlace, compacted, packedRecords, packedLetters}
 use Rattle.class_compact.specs.Inner.Form.{Sized}
 use Rattle.class_compact.specs.Inner.Sound.{seenBefore, nextOnly, inFirstUse}
-use Rattle.class_compact.proofs.Laws.Bytes.{Bytes, half-back}
+use Rattle.class_compact.proofs.Laws.Bytes.{half-back}
 use Rattle.class_compact.proofs.Laws.Firsts.{clash, first-least}
 use Rattle.class_compact.proofs.Laws.FirstUse.{place-seen, UsedBy, used-by, next-all, all-seen}
 use Rattle.class_compact.proofs.Laws.Form.{bytes-length, bytes-at, bytes-are, bytes-all, bytes-same, bytes-split, joined-same, joined-at, joined-table}
-use Rattle.class_compact.proofs.Laws.Numbering.{both, both-yes, alike-base, alike-lower, alike-of, alike-at, alike-first, alike-not, first-new, new-own, new-some, before-new, before-old, place-none, place-some}
+use Rattle.class_compact.proofs.Laws.Numbering.{both, both-yes, alike-base, alike-lower, alike-of, alike-at, alike-first, alike-not, first-new, new-own, new-some, before-new}
+use Rattle.class_compact.proofs.Laws.Numbering.{before-old, place-none, place-some}
 use Rattle.class_compact.proofs.Laws.Sound.{Good, good-parts, record-there, table-allowed, good-order, good-some, good-once}
 use Rattle.class_compact.proofs.Laws.Unpacked.{expansion-length, unpacked-records, base-none, lower-none, base-there, lower-there, at-letters, there}
 

@@ -1,6 +1,6 @@
 -- The case in which nothing is refused. Assumes nothing.
-use mathlib.Core.Path.{refl}
 use Rattle.class_compact.specs.Calls.{packedUnless}
+use mathlib.Core.Path.{refl}
 use Rattle.class_compact.proofs.packing_done.Statement.{statement}
 use Rattle.class_compact.proofs.packing_done.Tie as tie
 

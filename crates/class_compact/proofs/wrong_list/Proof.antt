@@ -1,6 +1,6 @@
 -- The same tests. Assumes nothing.
-use mathlib.Core.Path.{refl}
 use Rattle.class_compact.specs.Inner.Form.{wrongList}
+use mathlib.Core.Path.{refl}
 use Rattle.class_compact.proofs.wrong_list.Statement.{statement}
 use Rattle.class_compact.proofs.wrong_list.Tie as tie
 

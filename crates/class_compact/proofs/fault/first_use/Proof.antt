@@ -1,14 +1,12 @@
 -- No record before i uses the place; and where one does, it has 16 bits as every place has. Assumes nothing.
 use Prim.Native.Nat.{ℕ, _-_, _<_}
-use mathlib.Core.Path.{_≡_}
-use mathlib.Core.Bool.{Bool}
-use native.Mathlib.Omega.{arith}
-use lib.Dec.{eqb}
-use borrow.Author.Tests.{eq-eqb, ne-eqb}
-use Rattle.class_compact.specs.Form.{placeAt, compactRecords}
-use Rattle.class_compact.specs.Check.{firstUse}
 use Rattle.class_compact.proofs.Loops.Seeking.{Seeking, seeking-start, seeking-hit, seeking-more, seeking-end}
+use Rattle.class_compact.specs.Check.{firstUse}
+use Rattle.class_compact.specs.Form.{placeAt}
 use borrow.Author.Needs.{needs}
+use borrow.Author.Tests.{eq-eqb, ne-eqb}
+use lib.Dec.{eqb}
+use native.Mathlib.Omega.{arith}
 use Rattle.class_compact.proofs.fault.first_use.Statement.{statement}
 use Rattle.class_compact.proofs.fault.first_use.Tie as tie
 
@@ -27,17 +25,18 @@ place-of-requires c κs = omega arith
 returns : tie.Need-returns Inv-loop μ-loop
 unfolding firstUse
 returns c =
+    let at-loop-test = c .before .before in
+    let turn = at-loop-test .before in
     record {
-      is =
-          seeking-hit _ _ (c .before .before .before .loop .inv) (c .before .before .loop-test .taken)
-          (rw (← c .before .place-of .ensures .is) (eq-eqb _ _ (c .if1 .taken)));
+      is = seeking-hit _ _ (turn .loop .inv) (at-loop-test .loop-test .taken) (rw (← c .before .place-of .ensures .is) (eq-eqb _ _ (c .if1 .taken)));
       small = λ h. omega (arith, c .if1 .taken, c .before .place-of .ensures .small);
     }
 
 loop-again : tie.Need-loop-again Inv-loop μ-loop
 loop-again c =
-    seeking-more _ _ (c .before .before .before .loop .inv) (c .before .before .loop-test .taken)
-    (rw (← c .before .place-of .ensures .is) (ne-eqb _ _ (c .if1 .left)))
+    let at-loop-test = c .before .before in
+    let turn = at-loop-test .before in
+    seeking-more _ _ (turn .loop .inv) (at-loop-test .loop-test .taken) (rw (← c .before .place-of .ensures .is) (ne-eqb _ _ (c .if1 .left)))
 
 none : {A : Type 0} (i n : ℕ) → n < i → i < n → A
 none i n h k = absurd (no h k)
@@ -48,10 +47,7 @@ none i n h k = absurd (no h k)
 returns-2 : tie.Need-returns-2 Inv-loop μ-loop
 unfolding firstUse
 returns-2 c =
-    record {
-      is = seeking-end _ _ (c .before .loop .inv) (c .loop-test .left);
-      small = λ h. omega (arith, h, c .loop-test .left);
-    }
+    record { is = seeking-end _ _ (c .before .loop .inv) (c .loop-test .left); small = λ h. omega (arith, h, c .loop-test .left) }
 
 pub first-use-spec : {M : Type 1} → statement M
 first-use-spec =

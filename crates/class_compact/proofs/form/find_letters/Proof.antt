@@ -1,10 +1,9 @@
 -- No letters before k are these. Assumes nothing.
 use Prim.Native.Nat.{_-_}
-use mathlib.Core.Path.{refl}
-use native.Mathlib.Omega.{arith}
-use Rattle.class_compact.specs.Check.{lettersAre}
 use Rattle.class_compact.proofs.Loops.Seeking.{Seeking, seeking-start, seeking-hit, seeking-more, seeking-end}
+use Rattle.class_compact.specs.Check.{lettersAre}
 use borrow.Author.Needs.{needs}
+use native.Mathlib.Omega.{arith}
 use Rattle.class_compact.proofs.form.find_letters.Statement.{statement}
 use Rattle.class_compact.proofs.form.find_letters.Tie as tie
 
@@ -26,14 +25,20 @@ lower-at-requires c κs = omega arith
 returns : tie.Need-returns Inv-loop μ-loop
 unfolding lettersAre
 returns c =
-    seeking-hit _ _ (c .before .before .before .before .loop .inv) (c .before .before .before .loop-test .taken)
-    (rw (c .before .lower-at .ensures, c .before .before .base-at .ensures) at (c .if1 .taken))
+    let at-base-at = c .before .before in
+    let at-loop-test = at-base-at .before in
+    let turn = at-loop-test .before in
+    seeking-hit _ _ (turn .loop .inv) (at-loop-test .loop-test .taken)
+    (rw (c .before .lower-at .ensures, at-base-at .base-at .ensures) at (c .if1 .taken))
 
 loop-again : tie.Need-loop-again Inv-loop μ-loop
 unfolding lettersAre
 loop-again c =
-    seeking-more _ _ (c .before .before .before .before .loop .inv) (c .before .before .before .loop-test .taken)
-    (rw (c .before .lower-at .ensures, c .before .before .base-at .ensures) at (c .if1 .left))
+    let at-base-at = c .before .before in
+    let at-loop-test = at-base-at .before in
+    let turn = at-loop-test .before in
+    seeking-more _ _ (turn .loop .inv) (at-loop-test .loop-test .taken)
+    (rw (c .before .lower-at .ensures, at-base-at .base-at .ensures) at (c .if1 .left))
 
 returns-2 : tie.Need-returns-2 Inv-loop μ-loop
 returns-2 c = seeking-end _ _ (c .before .loop .inv) (c .loop-test .left)

@@ -1,9 +1,9 @@
 -- After k turns the first k bytes stand in the output from `at` on. Assumes nothing.
 use Prim.Native.Nat.{_-_}
-use mathlib.Core.Path.{refl}
-use lib.ListN.{length}
 use Rattle.base.proofs.Loops.Putting.{Putting, putting-start, putting-length, putting-room, putting-more, putting-end}
 use borrow.Author.Needs.{needs}
+use lib.ListN.{length}
+use mathlib.Core.Path.{refl}
 use Rattle.class_compact.proofs.form.lay.Statement.{statement}
 use Rattle.class_compact.proofs.form.lay.Tie as tie
 

@@ -1,9 +1,9 @@
 -- The place is the high half of the word of range and place, and a half has 16 bits. Assumes nothing.
 use Prim.Native.Nat.{ℕ, _+_, _*_}
-use mathlib.Core.Path.{_≡_}
-use native.Mathlib.Omega.{arith}
 use Rattle.class_compact.specs.Form.{COMPACT-RECORD, placeAt}
 use borrow.Author.Needs.{needs}
+use mathlib.Core.Path.{_≡_}
+use native.Mathlib.Omega.{arith}
 use Rattle.class_compact.proofs.form.place_of.Statement.{statement}
 use Rattle.class_compact.proofs.form.place_of.Tie as tie
 

@@ -1,8 +1,8 @@
 -- `seen` is the largest place passed, and `good` says whether each place was at most one more than the largest before it. Assumes nothing.
 use Prim.Native.Nat.{_-_}
-use native.Mathlib.Omega.{arith}
 use Rattle.class_compact.proofs.Loops.InFirstUse.{Seen, seen-start, seen-more, seen-end}
 use borrow.Author.Needs.{needs}
+use native.Mathlib.Omega.{arith}
 use Rattle.class_compact.proofs.sound.in_first_use.Statement.{statement}
 use Rattle.class_compact.proofs.sound.in_first_use.Tie as tie
 
@@ -23,7 +23,9 @@ add-good c = omega (arith, c .before .before .loop .inv .small)
 
 loop-again : tie.Need-loop-again Inv-loop μ-loop
 loop-again c =
-    seen-more _ _ _ _ _ _ (c .before .before .before .loop .inv) (c .before .before .loop-test .taken) (c .before .place-of .ensures) (c .pick .ensures)
+    let at-loop-test = c .before .before in
+    let turn = at-loop-test .before in
+    seen-more _ _ _ _ _ _ (turn .loop .inv) (at-loop-test .loop-test .taken) (c .before .place-of .ensures) (c .pick .ensures)
 
 returns : tie.Need-returns Inv-loop μ-loop
 returns c = seen-end _ _ _ _ _ (c .before .loop .inv) (c .loop-test .left)

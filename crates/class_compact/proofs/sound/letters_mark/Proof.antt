@@ -1,7 +1,7 @@
 -- The same numbers, and a remainder is below what is divided by. Assumes nothing.
-use native.Mathlib.Omega.{arith}
 use Rattle.class_compact.specs.Inner.Form.{markAt}
 use borrow.Author.Needs.{needs}
+use native.Mathlib.Omega.{arith}
 use Rattle.class_compact.proofs.sound.letters_mark.Statement.{statement}
 use Rattle.class_compact.proofs.sound.letters_mark.Tie as tie
 

@@ -1,0 +1,31 @@
+-- The front of the room is the expansion. Assumes nothing.
+use Rattle.class_compact.proofs.Laws.Calls.{expansion-front}
+use borrow.Author.Needs.{needs}
+use lib.ListN.{length-take}
+use native.Mathlib.Omega.{arith}
+use Rattle.md_compact.proofs.lines.score_lines_expanded.Statement.{statement}
+use Rattle.md_compact.proofs.lines.score_lines_expanded.Tie as tie
+
+slice-aggregate-score-lines-table : tie.Need-slice-aggregate-score-lines-table
+slice-aggregate-score-lines-table c =
+    let entry = c .before .before .before .before .before .before .before .before .before in
+    simp length-take (omega (arith, entry .pre .few))
+
+score-lines-table-requires : tie.Need-score-lines-table-requires
+score-lines-table-requires c κs =
+    let at-unpack-into = c .before .before .before in
+    let entry = at-unpack-into .before .before .before .before .before .before .before in
+    record { sized = entry .pre; is = expansion-front _ _ _ _ (omega (arith, entry .pre .few)) (at-unpack-into .unpack-into .ensures) }
+
+pub score-lines-expanded-spec : {M : Type 1} → statement M
+score-lines-expanded-spec =
+    tie.close
+    (tie.spec
+    (λ c. search needs)
+    (λ c κs. search needs)
+    (λ c. search needs)
+    (λ c. search needs)
+    slice-aggregate-score-lines-table
+    score-lines-table-requires
+    (λ c. search needs)
+    (λ c. search needs))

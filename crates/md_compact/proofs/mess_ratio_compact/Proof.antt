@@ -1,0 +1,22 @@
+-- A wrong length or number is refused in its order. Assumes nothing.
+use Rattle.base.specs.Causes.{refusedAt}
+use Rattle.class_compact.proofs.Laws.Sound.{wrong-refused, right-sized}
+use Rattle.md_compact.proofs.Laws.Either.{text-refused}
+use borrow.Author.Needs.{needs}
+use mathlib.Core.Path.{sym, _∙_}
+use Rattle.md_compact.proofs.mess_ratio_compact.Statement.{statement}
+use Rattle.md_compact.proofs.mess_ratio_compact.Tie as tie
+
+returns : tie.Need-returns
+unfolding refusedAt
+returns c =
+    let at-wrong-list = c .before .before in
+    text-refused _ _ _ _ _ _ _ (wrong-refused _ _ (sym (at-wrong-list .wrong-list .ensures) ∙ c .before .if1 .taken)) (c .first-of-text .ensures)
+
+score-expanded-requires : tie.Need-score-expanded-requires
+score-expanded-requires c κs = right-sized _ (sym (c .before .wrong-list .ensures) ∙ c .if1 .left)
+
+pub mess-ratio-compact-spec : {M : Type 1} → statement M
+mess-ratio-compact-spec =
+    tie.close
+    (tie.spec (λ c κs. search needs) (λ c κs. search needs) returns score-expanded-requires (λ c. search needs))

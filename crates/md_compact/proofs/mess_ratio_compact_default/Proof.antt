@@ -1,0 +1,12 @@
+-- Scoring at the default threshold is scoring without one. Assumes nothing.
+use Rattle.md_compact.proofs.Laws.Either.{default-same-compact}
+use borrow.Author.Needs.{needs}
+use mathlib.Core.Path.{_∙_}
+use Rattle.md_compact.proofs.mess_ratio_compact_default.Statement.{statement}
+use Rattle.md_compact.proofs.mess_ratio_compact_default.Tie as tie
+
+returns : tie.Need-returns
+returns c = c .mess-ratio-compact .ensures ∙ default-same-compact _ _ _ _
+
+pub mess-ratio-compact-default-spec : {M : Type 1} → statement M
+mess-ratio-compact-default-spec = tie.close (tie.spec (λ c κs. search needs) returns)
