@@ -23,6 +23,14 @@ CALLS = {
     "cd_merge": ["merge"],
     "md_report": ["report"],
     "ring": ["open_ring", "put_record", "flush_records"],
+    "class_compact": ["check_compact", "pack", "unpack"],
+    "md_compact": [
+        "mess_ratio_compact",
+        "mess_ratio_compact_default",
+        "mess_ratio_utf8_compact",
+        "mess_ratio_utf8_compact_default",
+        "score_lines_compact",
+    ],
     "program": ["report"],
     "host": None,
 }
@@ -41,6 +49,10 @@ STATEMENTS = [
     ("md_running", "Line", "line-whole"),  # a line that was fed in full answers what the whole call answers
     ("md_running", "Chunk", "chunk-one-by-one"),  # an accepted chunk leaves what its characters leave one by one
     ("md_growth", "Growth", "last-growth"),  # 02 [8]: the state keeps the index of each detector's last growth
+    ("class_compact", "Back", "packed-unpacked"),  # 02 [9]: a good table packs to a good compact one and comes back with the same bytes
+    ("class_compact", "Back", "unpacked-packed"),  # and the other way round
+    ("md_compact", "Either", "compact-same"),  # scoring with a good compact table is scoring with its expansion
+    ("md_compact", "Either", "packed-same"),  # and with what a good table packs to, scoring with that table
     ("md_second", "Agreed", "second-agrees"),  # 02 [10]: the two engines answer alike
     ("ring", "History", "history"),  # 02 [11]: the accepted puts of a history of calls are the flushed records and those in the ring
     ("md_thresholds", "Thresholds", "higher-compared"),  # 02 [12]: what a higher threshold does, in three sentences

@@ -1,4 +1,5 @@
 pub mod Chosen
+pub mod Compact
 pub mod Export
 pub mod Host
 pub mod Lent

@@ -1,4 +1,5 @@
 pub mod Chosen
+pub mod Compact
 pub mod Host
 pub mod Matches
 pub mod Running

@@ -47,6 +47,7 @@ use running::chunk_flat;
 use running::closed_flat;
 use running::fed_flat;
 
+pub mod compact;
 mod flat;
 mod running;
 
@@ -108,6 +109,15 @@ pub struct HostRing {
     pub place: u32,
     pub head: u32,
     pub count: u32,
+}
+
+// The answer of packing: a refusal's number and place, or zeros, how many records and how many letters.
+#[repr(C)]
+pub struct HostPacked {
+    pub number: u32,
+    pub place: u32,
+    pub records: u32,
+    pub letters: u32,
 }
 
 // The answer of a reason: a refusal's number and place, or zeros, the detector and how many indexes are listed.
