@@ -21,7 +21,7 @@
 #include <stddef.h>
 #include <stdint.h>
 
-#define DRASUMIRA_VERSION "0.2.0"
+#define DRASUMIRA_VERSION "0.3.0"
 
 /* ---- refusals */
 
