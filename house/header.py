@@ -148,7 +148,7 @@ def faults_of_entries(header, rust):
 
 def faults_of_the_document(header):
     page = text_of("docs/HOST.md")
-    short = {word: re.search(rf"{word} (?:stands )?for `(.*?)`", page, re.S)[1] for word in ("TABLES", "LANGUAGES")}
+    short = {word: re.search(rf"{word} (?:stands )?for `(.*?)`", page, re.S)[1] for word in ("TABLES", "COMPACT", "LANGUAGES")}
     told = set()
     for name, kind, words in re.findall(r"^\| (drasumira_\w+) \| `(\w+ ?\*?) ?\((.*)\)` \|$", page, re.M):
         for word, stands_for in short.items():

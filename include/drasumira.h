@@ -11,8 +11,8 @@
      units that the refusal says. In a refusal every other member is 0, but for which of two texts was refused, and nothing that was lent has changed.
      Of several causes the one that stands first in the entry's comment is told. drasumira_refusal_text has the words.
    - An answer of more than 16 bytes is written through the first argument, told, which is never NULL and is returned.
-   - classes, pairs and languages are the bytes of tables/classes.bin, pairs.bin and languages.bin, or a table of the host's own in the same form. They are
-     checked in every call, and a bad one is refused. A threshold is any finite float; where the sum of a text reaches it, the text counts as noise.
+   - classes, pairs and languages are the bytes of tables/classes.bin, pairs.bin and languages.bin, or a table of the host's own in the same form; records and
+     letters are those of tables/compact, the class table in its smaller form. They are checked in every call, and a bad one is refused. A threshold is any finite float; where the sum of a text reaches it, the text counts as noise.
 
    house/header.py holds this file to the library's own declarations. */
 #ifndef DRASUMIRA_H
@@ -21,7 +21,7 @@
 #include <stddef.h>
 #include <stdint.h>
 
-#define DRASUMIRA_VERSION "0.2.0"
+#define DRASUMIRA_VERSION "0.3.0"
 
 /* ---- refusals */
 
@@ -30,7 +30,7 @@
 #define DRASUMIRA_ILL_FORMED 2     /* bytes that are not UTF-8, place the first byte of the bad sequence; under a page an unused byte, place its index */
 #define DRASUMIRA_NO_ROOM 3        /* a lent output or work area is too short */
 #define DRASUMIRA_NOT_FINITE 4     /* the threshold is no finite number; in merging a score not from 0 to 1, place its entry */
-#define DRASUMIRA_BAD_CLASSES 5    /* the class table: place its first bad record, or 0 for its length or number */
+#define DRASUMIRA_BAD_CLASSES 5    /* the class table: place its first bad record, or 0 for its length or number; then a compact one's letters, in the same way */
 #define DRASUMIRA_UNCLASSED 6      /* a code point in no class record: place its index in the text */
 #define DRASUMIRA_BAD_PAIRS 7      /* the pair table is not 32,768 bytes */
 #define DRASUMIRA_BAD_LANGUAGES 8  /* the language table: place as for 5 */
@@ -55,8 +55,8 @@ static inline const char *drasumira_refusal_words(uint32_t number, uint32_t plac
     case DRASUMIRA_NO_ROOM: return "a lent output or work area is too short";
     case DRASUMIRA_NOT_FINITE: return "the threshold is not a finite number, or the score of entry # to merge is not from 0 to 1";
     case DRASUMIRA_BAD_CLASSES:
-        return place == 0 ? "the class table is not good: its length, its number of records, or record 0"
-                          : "the class table is not good: record #, counted from 0, is the first bad one";
+        return place == 0 ? "the class table is not good: its length, its number of records, or record 0; or of a compact one the letters' length, or letters 0"
+                          : "the class table is not good: record #, counted from 0, is the first bad one; or of a compact one letters # are";
     case DRASUMIRA_UNCLASSED:
         return "the code point at index # of the text, or in a ranking its lower case, is in no record of the class table";
     case DRASUMIRA_BAD_PAIRS: return "the pair table is not 32,768 bytes";
@@ -127,6 +127,8 @@ static inline size_t drasumira_refusal_text(uint32_t number, uint32_t place, cha
 #define DRASUMIRA_LONGEST_REPORT 40336    /* bytes that hold every report */
 #define DRASUMIRA_CLASS_RECORD 24         /* bytes of a class record */
 #define DRASUMIRA_MOST_CLASSES 8192       /* class records of a table */
+#define DRASUMIRA_COMPACT_RECORD 16       /* bytes of a class record of a compact table */
+#define DRASUMIRA_LETTERS_RECORD 8        /* bytes of its letters, a base and a lower-case letter */
 #define DRASUMIRA_PAIR_BYTES 32768        /* bytes of a pair table */
 #define DRASUMIRA_LANGUAGE_RECORD 1032    /* bytes of a language record */
 #define DRASUMIRA_MOST_LANGUAGES 63       /* language records of a table */
@@ -230,6 +232,14 @@ typedef struct DrasumiraReason {
     uint32_t detector;
     uint32_t count;
 } DrasumiraReason;
+
+/* Of packing a class table: how many compact records and how many letters there are. */
+typedef struct DrasumiraPacked {
+    uint32_t number;
+    uint32_t place;
+    uint32_t records;
+    uint32_t letters;
+} DrasumiraPacked;
 
 /* What a code point is: its flags, and the number of its range (tables/ranges.txt), 0 for none. */
 typedef struct DrasumiraClass {
@@ -345,6 +355,11 @@ DRASUMIRA_AT(DrasumiraReason, number, 0);
 DRASUMIRA_AT(DrasumiraReason, place, 4);
 DRASUMIRA_AT(DrasumiraReason, detector, 8);
 DRASUMIRA_AT(DrasumiraReason, count, 12);
+DRASUMIRA_SIZE(DrasumiraPacked, 16);
+DRASUMIRA_AT(DrasumiraPacked, number, 0);
+DRASUMIRA_AT(DrasumiraPacked, place, 4);
+DRASUMIRA_AT(DrasumiraPacked, records, 8);
+DRASUMIRA_AT(DrasumiraPacked, letters, 12);
 DRASUMIRA_SIZE(DrasumiraClass, 16);
 DRASUMIRA_AT(DrasumiraClass, number, 0);
 DRASUMIRA_AT(DrasumiraClass, place, 4);
@@ -422,6 +437,33 @@ DrasumiraReason drasumira_reason(const uint32_t *text, size_t n, float threshold
 /* The same of UTF-8 bytes; the indexes are in code points. Refusals: 1 over 262,144 bytes; 2; 1 over 65,536 code points; 4; 5; 7; 6; 3. */
 DrasumiraReason drasumira_reason_utf8(const uint8_t *bytes, size_t n, float threshold,
     const uint8_t *classes, size_t classes_n, const uint8_t *pairs, size_t pairs_n, uint32_t *out, size_t room);
+
+/* ---- the class table in its compact form: records of 16 bytes, little-endian, 0 first, 4 last, 8 flags, 12 range (2 bytes), 14 the place of its letters from 1 on, or 0 for
+   none (2 bytes); and letters of 8 bytes, 0 base, 4 lower, in order of first use, none twice and none (0, 0). The room is for the caller to lend, counted in bytes */
+
+/* A class table packed: its records at the front of records, its letters at the front of letters, of which the rest stays. Of n records 16 n and 8 n bytes are always
+   enough. Refusals: 5; 3. */
+DrasumiraPacked drasumira_pack(const uint8_t *classes, size_t classes_n, uint8_t *records, size_t records_n, uint8_t *letters, size_t letters_n);
+
+/* The class table of 24-byte records again, at the front of out, of which the rest stays: count is its records. Refusals: 5; 3. */
+DrasumiraRead drasumira_unpack(const uint8_t *records, size_t records_n, const uint8_t *letters, size_t letters_n, uint8_t *out, size_t room);
+
+/* What drasumira_score and its fellows answer with the unpacked table. Each call unpacks the table into 196,608 bytes of its own stack and checks it: for many calls over one
+   table drasumira_unpack it once. Refusals as theirs, with 5 for either list. */
+DrasumiraScore *drasumira_score_compact(DrasumiraScore *told, const uint32_t *text, size_t n, float threshold,
+    const uint8_t *records, size_t records_n, const uint8_t *letters, size_t letters_n, const uint8_t *pairs, size_t pairs_n);
+
+DrasumiraScore *drasumira_score_compact_default(DrasumiraScore *told, const uint32_t *text, size_t n,
+    const uint8_t *records, size_t records_n, const uint8_t *letters, size_t letters_n, const uint8_t *pairs, size_t pairs_n);
+
+DrasumiraScore *drasumira_score_utf8_compact(DrasumiraScore *told, const uint8_t *text, size_t n, float threshold,
+    const uint8_t *records, size_t records_n, const uint8_t *letters, size_t letters_n, const uint8_t *pairs, size_t pairs_n);
+
+DrasumiraScore *drasumira_score_utf8_compact_default(DrasumiraScore *told, const uint8_t *text, size_t n,
+    const uint8_t *records, size_t records_n, const uint8_t *letters, size_t letters_n, const uint8_t *pairs, size_t pairs_n);
+
+DrasumiraRead drasumira_score_lines_compact(const uint8_t *bytes, size_t n, float threshold,
+    const uint8_t *records, size_t records_n, const uint8_t *letters, size_t letters_n, const uint8_t *pairs, size_t pairs_n, uint32_t *out, size_t room);
 
 /* ---- a line that is scored while it arrives: open it, feed it, close it. Each call but closing checks the tables */
 

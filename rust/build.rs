@@ -69,7 +69,7 @@ fn check_target() {
 // The tables that the package carries, held to their sums. What else stands in a list is for other readers.
 fn check_tables(here: &Path) {
     let tables = here.join("tables");
-    for list in ["classes.sha256", "pairs.sha256", "languages.sha256", "pages.sha256"] {
+    for list in ["classes.sha256", "pairs.sha256", "languages.sha256", "pages.sha256", "compact.sha256"] {
         let again = "unpack the package again, or in the repository restore tables/";
         let path = tables.join(list);
         let Ok(lines) = std::fs::read_to_string(&path) else { stop(&format!("{} is missing: {again}", path.display())) };

@@ -30,7 +30,7 @@ pub fn flags_good(flags: u32) -> bool {
         && count(&[12, 15, 16, 17, 18, 19]) <= 1
 }
 
-fn record_good(r: &Record, before: Option<&Record>) -> bool {
+pub fn record_good(r: &Record, before: Option<&Record>) -> bool {
     r.first >= BUILTIN_END
         && r.first <= r.last
         && r.last <= 0x10FFFF

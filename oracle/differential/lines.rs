@@ -7,10 +7,10 @@ use crate::texts::{self, Alphabet};
 use crate::{DEFAULT_THRESHOLD, ROOMS, Run, causes, chars, expected_score, hex, oracle_score, tables};
 
 const LONGEST_BURST: usize = 16_777_216;
-const NUMBERS: usize = SCORE_WORDS;
+pub const NUMBERS: usize = SCORE_WORDS;
 
 // Lines end at 0A; a last line without one counts; no bytes are no lines.
-fn lines(bytes: &[u8]) -> Vec<&[u8]> {
+pub fn lines(bytes: &[u8]) -> Vec<&[u8]> {
     let mut lines: Vec<&[u8]> = bytes.split(|b| *b == 0x0A).collect();
     if lines.last().is_some_and(|last| last.is_empty()) {
         lines.pop();
@@ -18,7 +18,7 @@ fn lines(bytes: &[u8]) -> Vec<&[u8]> {
     lines
 }
 
-fn expected_line(line: &[u8], threshold: f32, classes: &[u8], pairs: &[u8]) -> HostScore {
+pub fn expected_line(line: &[u8], threshold: f32, classes: &[u8], pairs: &[u8]) -> HostScore {
     match causes::points(line) {
         Err(refusal) => causes::refused(refusal),
         Ok(text) => expected_score(&text, Some(threshold), classes, pairs),
@@ -42,7 +42,7 @@ fn refusal(bytes: &[u8], threshold: f32, classes: &[u8], pairs: &[u8], room: usi
     (room < NUMBERS * lines(bytes).len()).then_some((3, 0))
 }
 
-fn shown(bytes: &[u8]) -> String {
+pub fn shown(bytes: &[u8]) -> String {
     let shown: Vec<String> = bytes.iter().take(200).map(|b| format!("{b:02X}")).collect();
     format!("{} bytes: {}", bytes.len(), shown.join(" "))
 }

@@ -6,6 +6,7 @@
 mod aimed;
 mod causes;
 mod coherence;
+mod compact;
 mod edges;
 mod library;
 mod lines;
@@ -617,7 +618,7 @@ fn main() {
         }
         _ => {
             eprintln!(
-                "usage: differential quick|full|survey-once|survey-twice TABLES [SEED [scoring|reading|pages|writing|coherence|merges|reasons|reports|rings|running]]"
+                "usage: differential quick|full|survey-once|survey-twice TABLES [SEED [scoring|reading|pages|writing|coherence|merges|reasons|reports|rings|running|compact]]"
             );
             std::process::exit(2)
         }
@@ -647,7 +648,7 @@ fn main() {
     walls::watch();
     eprintln!("seed {seed}, over {}", env!("LIBRARY"));
     for name in
-        ["scoring", "reading", "pages", "writing", "coherence", "merges", "reasons", "reports", "rings", "running"].into_iter().filter(|name| part.is_none_or(|part| part == *name))
+        ["scoring", "reading", "pages", "writing", "coherence", "merges", "reasons", "reports", "rings", "running", "compact"].into_iter().filter(|name| part.is_none_or(|part| part == *name))
     {
         run.part = name;
         match name {
@@ -660,7 +661,8 @@ fn main() {
             "reasons" => run.all_reasons(&classes, &pairs),
             "reports" => run.all_reports(&classes, &pairs),
             "rings" => run.all_rings(),
-            _ => run.all_running(&classes, &pairs),
+            "running" => run.all_running(&classes, &pairs),
+            _ => run.all_compact(&classes, &pairs),
         }
     }
     if survey > 0 {

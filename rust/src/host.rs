@@ -1,10 +1,11 @@
-// The library's entries by the C ABI (docs/HOST.md). All that is `unsafe` in this package stands here, in host/coherence.rs, in host/ring.rs, in host/running.rs and in host/why.rs: each slice
+// The library's entries by the C ABI (docs/HOST.md). All that is `unsafe` in this package stands here, in host/coherence.rs, in host/compact.rs, in host/ring.rs, in host/running.rs and in host/why.rs: each slice
 // crosses as pointer and length, and a struct of more than 16 bytes comes back through the first pointer, which is also returned.
 //
 // What every call of an entry rests on, and what "as above" at each `unsafe` means: pointer and length are those of one Rust slice, so they are
 // valid, aligned and stay so for the call; what is lent for writing is a `&mut`, so it overlaps nothing else; the entry is declared as
 // crates/host/src/lib.rt has it.
 pub mod coherence;
+pub mod compact;
 pub mod ring;
 pub mod running;
 pub mod why;

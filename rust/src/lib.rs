@@ -27,6 +27,7 @@
 #![deny(missing_docs, clippy::undocumented_unsafe_blocks, clippy::missing_errors_doc)]
 mod chooser;
 mod coherence;
+mod compact;
 mod detector;
 mod host;
 mod page;
@@ -41,6 +42,7 @@ mod writing;
 
 pub use chooser::{RefusedText, Which, choose, verdict};
 pub use coherence::{CoherenceMatch, Languages, TOO_SMALL_SEQUENCE, coherence, language_name, merge};
+pub use compact::{COMPACT_RECORD, Compact, LETTERS_RECORD};
 pub use detector::{Detector, Share};
 pub use page::Page;
 pub use refusal::Refusal;

@@ -26,7 +26,8 @@ impl Refusal {
     pub const NO_ROOM: u32 = 3;
     /// The threshold is no finite number; in merging, a score is not from 0 to 1, and the place is its entry.
     pub const NOT_FINITE: u32 = 4;
-    /// The class table is not good. The place is the first bad record, or 0 for its length or number.
+    /// The class table is not good. The place is the first bad record, or 0 for its length or number. Of a compact one it is also the first bad letters, or 0 for their length,
+    /// where no record is bad.
     pub const BAD_CLASSES: u32 = 5;
     /// A code point is in no record. The place is its index in the text.
     pub const UNCLASSED: u32 = 6;
@@ -77,7 +78,10 @@ impl fmt::Display for Refusal {
             Refusal::NOT_FINITE => {
                 write!(f, "the threshold is not a finite number, or the score of entry {place} to merge is not from 0 to 1")
             }
-            Refusal::BAD_CLASSES => bad_table(f, "class", place),
+            Refusal::BAD_CLASSES => {
+                bad_table(f, "class", place)?;
+                bad_letters(f, place)
+            }
             Refusal::UNCLASSED => {
                 write!(f, "the code point at index {place} of the text, or in a ranking its lower case, is in no record of the class table")
             }
@@ -111,6 +115,13 @@ fn bad_table(f: &mut fmt::Formatter<'_>, table: &str, place: u32) -> fmt::Result
     match place {
         0 => write!(f, "the {table} table is not good: its length, its number of records, or record 0"),
         _ => write!(f, "the {table} table is not good: record {place}, counted from 0, is the first bad one"),
+    }
+}
+
+fn bad_letters(f: &mut fmt::Formatter<'_>, place: u32) -> fmt::Result {
+    match place {
+        0 => write!(f, "; or of a compact one the letters' length, or letters 0"),
+        _ => write!(f, "; or of a compact one letters {place} are"),
     }
 }
 
