@@ -2,4 +2,5 @@ pub mod Going
 pub mod Lent
 pub mod Plain
 pub mod Ready
+pub mod Rest
 pub mod Scan

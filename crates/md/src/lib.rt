@@ -12,6 +12,7 @@ use scan::scan_text;
 use tables::check_lent;
 use tables::check_tables;
 
+mod rest;
 pub mod scan;
 pub mod tables;
 mod text;
