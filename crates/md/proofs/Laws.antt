@@ -7,4 +7,5 @@ pub mod Lent
 pub mod MessRatio
 pub mod Plain
 pub mod Rest
+pub mod Runs
 pub mod Scan

@@ -3,4 +3,5 @@ pub mod Lent
 pub mod Plain
 pub mod Ready
 pub mod Rest
+pub mod Runs
 pub mod Scan

@@ -13,6 +13,7 @@ use tables::check_lent;
 use tables::check_tables;
 
 mod rest;
+mod runs;
 pub mod scan;
 pub mod tables;
 mod text;

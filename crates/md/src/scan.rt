@@ -20,6 +20,7 @@ use crate::Limit;
 use crate::Score;
 use crate::Scored;
 use crate::rest::unclassed_from;
+use crate::runs::fed_run;
 use crate::text::at_checkpoint;
 use crate::text::char_at;
 use crate::unscored;
@@ -49,7 +50,7 @@ fn class_at(
 }
 
 // One character, fed to the eight, with the pair table's bit for its range after the last one.
-fn fed(s: Detectors, c: Class, pairs: &[u8]) -> Detectors
+pub fn fed(s: Detectors, c: Class, pairs: &[u8]) -> Detectors
     requires { ⌜ detectors.Room s × (length (now pairs) ≡ PAIR-BYTES) × (lastRange s ≤ LAST-RANGE) × (c .range ≤ LAST-RANGE) ⌝ }
     ensures { λ r. ⌜ r ≡ scans.fed (now (pairs .entry)) s c ⌝ }
 {
@@ -127,7 +128,7 @@ fn stopped_after(
     answered(s.counts(), (i + 1) as u32, true)
 }
 
-// The scan goes on only where the lookup found a class. The built-in table and the hints are lent, so that a caller with many texts makes them once;
+// The scan goes on only where the lookup found a class; the characters behind one that are of its kind are fed with it. The built-in table and the hints are lent, so that a caller with many texts makes them once;
 // whatever the hints are, the answer is the same.
 pub fn scan_text_in(
     text: &[u32],
@@ -147,11 +148,12 @@ pub fn scan_text_in(
         let Found::At(c) = class_at(text, i, hints, table, classes) else {
             return unscored(UNCLASSED, i as u32);
         };
-        s = fed(s, c, pairs);
-        if is_over(s, text.len(), i, limit) {
-            return stopped_after(s, text, i, hints, classes);
+        let f = fed_run(s, c, text, i, hints, classes, pairs);
+        s = f.state;
+        i = f.next;
+        if is_over(s, text.len(), i - 1, limit) {
+            return stopped_after(s, text, i - 1, hints, classes);
         }
-        i += 1;
     }
     answered(s.counts(), n as u32, false)
 }

@@ -49,7 +49,11 @@ module _ (t : List ℕ) (g : goodTable t ≡ true) (p at : ℕ) (l : at < record
       let e : holder t p ≡ at = holder-is t g p at l inside in
       class-lent t p (held-past t g p at l inside) ∙ lent-held t p (rw e l) ∙ rw e
 
-holder-holds : (t : List ℕ) (p : ℕ) → holder t p < records t → within (recordAt t (holder t p) .first) (recordAt t (holder t p) .last) p ≡ true
+pub holder-hold : (t : List ℕ) (p : ℕ) → holder t p < records t → holds t p (holder t p) ≡ true
+unfolding holder
+holder-hold t p h = first-found (holds t p) (records t) h
+
+pub holder-holds : (t : List ℕ) (p : ℕ) → holder t p < records t → within (recordAt t (holder t p) .first) (recordAt t (holder t p) .last) p ≡ true
 unfolding holder holds
 holder-holds t p h = first-found (holds t p) (records t) h
 

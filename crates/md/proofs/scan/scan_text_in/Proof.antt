@@ -3,8 +3,8 @@
 use Prim.Native.Nat.{_-_}
 use mathlib.Core.Path.{sym, _∙_}
 use native.Mathlib.Omega.{arith}
-use Rattle.md.proofs.Loops.Going.{Going, going-start, going-room, going-countable, going-range, going-missing, fed-countable, going-on, going-stopped, going-ended}
-use Rattle.md.proofs.Laws.Scan.{class-range, answered-state}
+use Rattle.md.proofs.Loops.Going.{Going, going-start, going-before, going-countable, going-missing, fed-countable, going-on, going-stopped, going-ended}
+use Rattle.md.proofs.Laws.Scan.{answered-state}
 use borrow.Author.Needs.{needs}
 use Rattle.md.proofs.scan.scan_text_in.Statement.{statement}
 use Rattle.md.proofs.scan.scan_text_in.Tie as tie
@@ -52,78 +52,59 @@ returns c =
     ∙ going-missing _ _ _ _ (at-loop .inv) (at-loop-test .taken)
     (sym (c .before .before .before .class-at .ensures) ∙ c .before .enum-told .given .1)
 
-fed-requires : tie.Need-fed-requires Inv-loop μ-loop
-fed-requires c κs =
-    let at-loop = c .before .before .before .before .before .before .loop in
-    let asked = c .before .before .before .before .before .before .before .before .before .before .before .pre in
-    let going = at-loop .inv in (
-      going-room _ _ _ _ going (omega (arith, asked .short)),
-      asked .tables .fits,
-      going-range _ _ _ _ going (asked .tables .good),
-      class-range _ _ (asked .tables .good) _ _ (sym (c .before .before .before .class-at .ensures) ∙ c .before .c .given .1),
-    )
-
-is-over-requires : tie.Need-is-over-requires Inv-loop μ-loop
-is-over-requires c κs =
+fed-run-requires : tie.Need-fed-run-requires Inv-loop μ-loop
+fed-run-requires c κs =
     let at-loop = c .before .before .before .before .before .before .before .loop in
     let at-loop-test = c .before .before .before .before .before .before .loop-test in
     let at-class-at = c .before .before .before .before .class-at in
     let asked = c .before .before .before .before .before .before .before .before .before .before .before .before .pre in
-    fed-countable _ _ _ _ (at-loop .inv) _ _ (at-loop-test .taken)
+    going-before _ _ _ _ (at-loop .inv) (asked .tables) (asked .short) _ (at-loop-test .taken)
     (sym (at-class-at .ensures) ∙ c .before .before .c .given .1)
-    (c .fed .ensures)
-    (omega (arith, asked .short))
+
+sub-is-over : tie.Need-sub-is-over Inv-loop μ-loop
+sub-is-over c = omega (arith, c .before .fed-run .ensures .begins)
+
+is-over-requires : tie.Need-is-over-requires Inv-loop μ-loop
+is-over-requires c κs =
+    let at-loop = c .before .before .before .before .before .before .before .before .before .loop in
+    let asked = c .before .before .before .before .before .before .before .before .before .before .before .before .before .before .pre in
+    fed-countable _ _ _ _ (at-loop .inv) _ (c .before .fed-run .ensures) (omega (arith, asked .short))
+
+sub-stopped-after : tie.Need-sub-stopped-after Inv-loop μ-loop
+sub-stopped-after c = omega (arith, c .before .before .before .fed-run .ensures .begins)
 
 stopped-after-requires : tie.Need-stopped-after-requires Inv-loop μ-loop
 stopped-after-requires c κs =
-    let at-loop = c .before .before .before .before .before .before .before .before .before .before .loop in
-    let at-class-at = c .before .before .before .before .before .before .before .class-at in
-    let at-c = c .before .before .before .before .before .c in
-    let asked = c .before .before .before .before .before .before .before .before .before .before .before .before .before .before .before .pre in
-    let turn = c .before .before .before .before .before .before .before .before .before .loop-test in (
+    let at-loop = c .before .before .before .before .before .before .before .before .before .before .before .before .loop in
+    let asked = c .before .before .before .before .before .before .before .before .before .before .before .before .before .before .before .before .before .pre in
+    let went = c .before .before .before .before .fed-run in (
       asked .tables .good,
       asked .short,
-      turn .taken,
-      fed-countable _ _ _ _ (at-loop .inv) _ _ (turn .taken)
-          (sym (at-class-at .ensures) ∙ at-c .given .1)
-          (c .before .before .before .fed .ensures)
-          (omega (arith, asked .short)),
+      omega (arith, went .ensures .begins, went .ensures .ends),
+      fed-countable _ _ _ _ (at-loop .inv) _ (went .ensures) (omega (arith, asked .short)),
     )
 
 returns-2 : tie.Need-returns-2 Inv-loop μ-loop
 returns-2 c =
-    let at-loop = c .before .before .before .before .before .before .before .before .before .before .before .loop in
-    let at-loop-test = c .before .before .before .before .before .before .before .before .before .before .loop-test in
-    let at-class-at = c .before .before .before .before .before .before .before .before .class-at in
-    let at-c = c .before .before .before .before .before .before .c in
-    let at-fed = c .before .before .before .before .fed in
-    going-stopped _ _ _ _ (at-loop .inv) _ _ (at-loop-test .taken)
-    (sym (at-class-at .ensures) ∙ at-c .given .1)
-    (at-fed .ensures)
+    let at-loop = c .before .before .before .before .before .before .before .before .before .before .before .before .before .loop in
+    let went = c .before .before .before .before .before .fed-run in
+    going-stopped _ _ _ _ (at-loop .inv) _ (went .ensures) _ (omega (arith, went .ensures .begins))
     _
     (c .before .before .before .is-over .ensures)
     (c .before .before .if1 .taken)
     _
     (c .stopped-after .ensures)
 
-add-i : tie.Need-add-i Inv-loop μ-loop
-add-i c =
-    let asked = c .before .before .before .before .before .before .before .before .before .before .before .before .before .before .pre in
-    let turn = c .before .before .before .before .before .before .before .before .loop-test in
-    omega (arith, turn .taken, asked .short)
-
 loop-less : tie.Need-loop-less Inv-loop μ-loop
-loop-less c = omega arith
+loop-less c =
+    let at-loop-test = c .before .before .before .before .before .before .before .before .before .before .loop-test in
+    omega (arith, c .before .before .before .fed-run .ensures .begins, at-loop-test .taken)
 
 loop-again : tie.Need-loop-again Inv-loop μ-loop
 loop-again c =
-    let at-loop = c .before .before .before .before .before .before .before .before .before .loop in
-    let at-loop-test = c .before .before .before .before .before .before .before .before .loop-test in
-    let at-class-at = c .before .before .before .before .before .before .class-at in
-    let at-c = c .before .before .before .before .c in
-    going-on _ _ _ _ (at-loop .inv) _ _ (at-loop-test .taken)
-    (sym (at-class-at .ensures) ∙ at-c .given .1)
-    (c .before .before .fed .ensures)
+    let at-loop = c .before .before .before .before .before .before .before .before .before .before .before .loop in
+    let went = c .before .before .before .fed-run in
+    going-on _ _ _ _ (at-loop .inv) _ (went .ensures) _ (omega (arith, went .ensures .begins))
     _
     (c .before .is-over .ensures)
     (c .if1 .left)
@@ -162,11 +143,12 @@ scan-text-in-spec =
     cast-unscored
     unscored-requires
     returns
-    fed-requires
+    fed-run-requires
+    sub-is-over
     is-over-requires
+    sub-stopped-after
     stopped-after-requires
     returns-2
-    add-i
     loop-less
     loop-again
     counts-requires
