@@ -53,6 +53,7 @@ pub struct Shelves {
     upper: Vec<u32>, // not ASCII
     lower: Vec<u32>,
     caseless: Vec<u32>,
+    spans: Vec<(u32, u32)>, // of the records
     all: Vec<(u32, u16)>,
     pairs: Vec<u8>,
     stops: bool, // whether the table knows the stops
@@ -115,6 +116,7 @@ impl Shelves {
             lower: those(LOWERCASE | CASE_VARIABLE | ALPHABETIC, ASCII),
             caseless: those(ALPHABETIC, CASE_VARIABLE),
             stops: STOPS.iter().chain(&BESIDE_STOPS).all(|p| records.iter().any(|r| r.first <= *p && *p <= r.last)),
+            spans: records.iter().map(|r| (r.first, r.last)).collect(),
             all: all.iter().filter(|k| k.flags & UNPRINTABLE == 0 && !forgets(k)).map(|k| (k.point, k.range)).collect(),
             pairs: pairs.to_vec(),
         }
@@ -322,6 +324,45 @@ fn archaic(r: &mut Random, s: &Shelves) -> Vec<u32> {
             _ => text.push(one(r, &s.forgetting, 0x20)),
         }
     }
+    text
+}
+
+// Code points of one kind: ASCII's lower-case letters, a space, punctuation, those of one record or of two beside each other, or the wrong stops and what stands beside them.
+fn kind(r: &mut Random, s: &Shelves) -> Vec<u32> {
+    let edges = |&(first, last): &(u32, u32)| vec![first, first.midpoint(last), last];
+    match r.below(8) {
+        0 | 1 => (0x61..=0x7A).collect(),
+        2 => vec![0x20],
+        3 => vec![one(r, &s.punctuation, 0x2E)],
+        4 if s.stops => (0x4E02..=0x4E07).collect(),
+        _ if s.spans.is_empty() => (0x41..=0x5A).collect(),
+        5 => {
+            let at = r.below(s.spans.len());
+            s.spans[at..].iter().take(2).flat_map(edges).collect()
+        }
+        6 => vec![one(r, &s.accented, 0xE9), one(r, &s.letters, 0x61)],
+        _ => edges(r.pick(&s.spans)),
+    }
+}
+
+// Runs of one kind, of n characters in all. Each ends just before a checkpoint, at it or past it, or anywhere: the shortest period divides the others.
+pub fn runs(r: &mut Random, s: &Shelves, n: usize) -> Vec<u32> {
+    const PERIOD: usize = 32;
+    let mut text = vec![];
+    while text.len() < n {
+        let left = PERIOD - text.len() % PERIOD;
+        let m = match r.below(7) {
+            0 => left - 1,
+            1 => left,
+            2 => left + 1,
+            3 => left + PERIOD * r.below(5),
+            4 => 1,
+            _ => 1 + r.below(70),
+        };
+        let kind = kind(r, s);
+        text.extend(some(r, m, &kind, 0x61));
+    }
+    text.truncate(n);
     text
 }
 

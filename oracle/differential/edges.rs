@@ -74,6 +74,21 @@ impl Run {
         }
     }
 
+    // Runs that end at the checkpoints of each period and on both sides of them, and at the newline; one character without a class among them.
+    pub fn aimed_runs(&mut self, times: usize, shelves: &Shelves, lent: &Lent) {
+        for _ in 0..times {
+            for n in [1, 31, 32, 33, 63, 64, 65, 127, 128, 129, 509, 510, 511, 575, 576, 577, 1022, 1023, 1024, 1151, 1152, 1153] {
+                let mut text = aimed::runs(&mut self.random, shelves, n);
+                self.aimed_at(&text, lent);
+                let at = self.random.below(n);
+                text[at] = 0xD800 + self.random.below(0x800) as u32;
+                for threshold in [NEVER, 0.0] {
+                    self.scored(&text, Some(threshold), lent.classes.list(), lent.pairs.list());
+                }
+            }
+        }
+    }
+
     // The threshold that the default call takes, f32 0.15: sums of just that, of the floats next to it, and of the fractions next to it; and the 0.2
     // that it was before.
     pub fn aimed_default(&mut self, times: usize, lent: &Lent) {
@@ -120,6 +135,9 @@ impl Run {
             lend(&records, &pairs);
             let (shelves, lent) = (Shelves::new(&records, &pairs), Lent::new(&classes, &pairs));
             self.aimed_texts(2, &shelves, &lent);
+            let n = 1 + self.random.below(200);
+            let text = aimed::runs(&mut self.random, &shelves, n);
+            self.aimed_at(&text, &lent);
             self.gaps(&records, &classes, &pairs);
             LENT.with_borrow_mut(|l| *l = oracle::open::Lent::default());
         }

@@ -16,14 +16,14 @@ fn is_holder(t: &[u8], p: u32, i: usize) -> bool
     (u32_at(t, at) <= p) & (p <= u32_at(t, at + LAST_AT))
 }
 
-fn first_of(t: &[u8], i: usize) -> u32
+pub fn first_of(t: &[u8], i: usize) -> u32
     requires { ⌜ i < records (now t) ⌝ }
     ensures { λ r. ⌜ r ≡ recordAt (now (t .entry)) i .first ⌝ }
 {
     u32_at(t, i * CLASS_RECORD)
 }
 
-fn last_of(t: &[u8], i: usize) -> u32
+pub fn last_of(t: &[u8], i: usize) -> u32
     requires { ⌜ i < records (now t) ⌝ }
     ensures { λ r. ⌜ r ≡ recordAt (now (t .entry)) i .last ⌝ }
 {

@@ -31,8 +31,8 @@ pub struct Class {
     pub lower: u32,
 }
 
-// How many hints a lookup is lent: the letters of an alphabet have a place each.
-pub const HINTS: usize = 64;
+// How many hints a lookup is lent: the letters of an alphabet have a place each, and kana one beside the kanji between them.
+pub const HINTS: usize = 1024;
 
 // What the lookup finds.
 pub enum Found {
@@ -100,17 +100,25 @@ pub fn look_up_in(point: u32, table: &Table, classes: &[u8]) -> Found
     lent_class(point, classes)
 }
 
-// The same for the code points of a text, one after the other. `hints` are the records found last, a place for each remainder of a code point, so
-// that most are found without a search; whatever stands there, the answer is the same.
+// The record that holds a code point, or the number of records, for the code points of a text, one after the other. `hints` are the records found
+// last, a place for each remainder of a code point, so that most are found without a search; whatever stands there, the answer is the same.
+pub fn held_near(point: u32, hints: &mut [usize; HINTS], classes: &[u8]) -> usize
+    requires { ⌜ goodTable (now classes) ≡ true ⌝ }
+    ensures { λ r. ⌜ r ≡ holder (now (classes .entry)) point ⌝ }
+{
+    let k = point as usize % HINTS;
+    let at = class_records::search::find_near(classes, point, hints[k]);
+    hints[k] = at;
+    at
+}
+
+// The class of a code point, found by hints.
 pub fn look_up_near(point: u32, hints: &mut [usize; HINTS], table: &Table, classes: &[u8]) -> Found
     requires { ⌜ (goodTable (now classes) ≡ true) × (now table ≡ packedWords) ⌝ }
     ensures { λ r. ⌜ r ≡ classOf (now (classes .entry)) point ⌝ }
 {
     if BUILTIN_END <= point {
-        let k = point as usize % HINTS;
-        let at = class_records::search::find_near(classes, point, hints[k]);
-        hints[k] = at;
-        return class_in(point, at, classes);
+        return class_in(point, held_near(point, hints, classes), classes);
     }
     Found::At(builtin_class(point, table))
 }

@@ -6,4 +6,6 @@ pub mod DemandThree
 pub mod Lent
 pub mod MessRatio
 pub mod Plain
+pub mod Rest
+pub mod Runs
 pub mod Scan

@@ -2,4 +2,6 @@ pub mod Going
 pub mod Lent
 pub mod Plain
 pub mod Ready
+pub mod Rest
+pub mod Runs
 pub mod Scan

@@ -12,6 +12,8 @@ use scan::scan_text;
 use tables::check_lent;
 use tables::check_tables;
 
+mod rest;
+mod runs;
 pub mod scan;
 pub mod tables;
 mod text;

@@ -3,7 +3,6 @@ ghost use mathlib.Core.Path.{_≡_};
 ghost use mathlib.Core.Bool.{true, _&&_};
 ghost use Prim.Native.Nat.{_+_, _≤_, _<_};
 ghost use lib.ListN.{length};
-ghost use Rattle.base.specs.Inner.First.{firstFrom};
 ghost use Rattle.base.specs.Limits.{LONGEST-TEXT, LAST-RANGE, PAIR-BYTES};
 ghost use Rattle.class_builtin.specs.Inner.Words.{packedWords};
 ghost use Rattle.class_records.specs.Records.{goodTable};
@@ -20,6 +19,8 @@ ghost use Rattle.md.specs.Inner.Ready.{Ready};
 use crate::Limit;
 use crate::Score;
 use crate::Scored;
+use crate::rest::unclassed_from;
+use crate::runs::fed_run;
 use crate::text::at_checkpoint;
 use crate::text::char_at;
 use crate::unscored;
@@ -27,21 +28,29 @@ use base::refusals::UNCLASSED;
 use class_builtin::Table;
 use classes::Class;
 use classes::Found;
+use classes::HINTS;
+use classes::look_up_near;
 use md_eight::Detectors;
 use ratio::EightCounts;
 use ratio::rounding;
 use ratio::telling;
 
-// What the lookup finds for the character at i, the built-in table being lent.
-fn class_at(text: &[u32], i: usize, table: &Table, classes: &[u8]) -> Found
+// What the lookup finds for the character at i, the built-in table and the hints being lent.
+fn class_at(
+    text: &[u32],
+    i: usize,
+    hints: &mut [usize; HINTS],
+    table: &Table,
+    classes: &[u8],
+) -> Found
     requires { ⌜ (goodTable (now classes) ≡ true) × (now table ≡ packedWords) ⌝ }
     ensures { λ r. ⌜ r ≡ scans.classAt (now (classes .entry)) (now (text .entry)) i ⌝ }
 {
-    classes::look_up_in(char_at(text, i), table, classes)
+    look_up_near(char_at(text, i), hints, table, classes)
 }
 
 // One character, fed to the eight, with the pair table's bit for its range after the last one.
-fn fed(s: Detectors, c: Class, pairs: &[u8]) -> Detectors
+pub fn fed(s: Detectors, c: Class, pairs: &[u8]) -> Detectors
     requires { ⌜ detectors.Room s × (length (now pairs) ≡ PAIR-BYTES) × (lastRange s ≤ LAST-RANGE) × (c .range ≤ LAST-RANGE) ⌝ }
     ensures { λ r. ⌜ r ≡ scans.fed (now (pairs .entry)) s c ⌝ }
 {
@@ -101,38 +110,30 @@ pub fn scored(s: Detectors, fed: u32, stopped: bool) -> Scored
     answered(s.counts(), fed, stopped)
 }
 
-// The first index from `from` on whose character has no class, or the number of characters, the newline counted.
-fn unclassed_from(text: &[u32], from: usize, table: &Table, classes: &[u8]) -> usize
-    requires { ⌜ (goodTable (now classes) ≡ true) × (length (now text) ≤ LONGEST-TEXT) × (from ≤ total (now text)) × (now table ≡ packedWords) ⌝ }
-    ensures { λ r. ⌜ r ≡ firstFrom (scans.unclassed (now (classes .entry)) (now (text .entry))) (total (now (text .entry))) from ⌝ }
-{
-    let n = text.len() + 1;
-    let mut i = from;
-    while i < n {
-        let Found::At(_) = class_at(text, i, table, classes) else {
-            return i;
-        };
-        i += 1;
-    }
-    i
-}
-
 // The answer of a scan that stops after the character at i. The whole text is classed, past the stop too.
-fn stopped_after(s: Detectors, text: &[u32], i: usize, table: &Table, classes: &[u8]) -> Scored
-    requires { ⌜ (goodTable (now classes) ≡ true) × (length (now text) ≤ LONGEST-TEXT) × (i < total (now text)) × detectors.Countable s × (now table ≡ packedWords) ⌝ }
+fn stopped_after(
+    s: Detectors,
+    text: &[u32],
+    i: usize,
+    hints: &mut [usize; HINTS],
+    classes: &[u8],
+) -> Scored
+    requires { ⌜ (goodTable (now classes) ≡ true) × (length (now text) ≤ LONGEST-TEXT) × (i < total (now text)) × detectors.Countable s ⌝ }
     ensures { λ r. ⌜ r ≡ going.stoppedAfter (now (classes .entry)) (now (text .entry)) s i ⌝ }
 {
-    let bad = unclassed_from(text, i + 1, table, classes);
+    let bad = unclassed_from(text, i + 1, hints, classes);
     if bad <= text.len() {
         return unscored(UNCLASSED, bad as u32);
     }
     answered(s.counts(), (i + 1) as u32, true)
 }
 
-// The scan goes on only where the lookup found a class. The built-in table is lent, so that a caller with many texts makes it once.
+// The scan goes on only where the lookup found a class; the characters behind one that are of its kind are fed with it. The built-in table and the hints are lent, so that a caller with many texts makes them once;
+// whatever the hints are, the answer is the same.
 pub fn scan_text_in(
     text: &[u32],
     limit: Limit,
+    hints: &mut [usize; HINTS],
     table: &Table,
     classes: &[u8],
     pairs: &[u8],
@@ -144,14 +145,15 @@ pub fn scan_text_in(
     let mut s = Detectors::start();
     let mut i = 0;
     while i < n {
-        let Found::At(c) = class_at(text, i, table, classes) else {
+        let Found::At(c) = class_at(text, i, hints, table, classes) else {
             return unscored(UNCLASSED, i as u32);
         };
-        s = fed(s, c, pairs);
-        if is_over(s, text.len(), i, limit) {
-            return stopped_after(s, text, i, table, classes);
+        let f = fed_run(s, c, text, i, hints, classes, pairs);
+        s = f.state;
+        i = f.next;
+        if is_over(s, text.len(), i - 1, limit) {
+            return stopped_after(s, text, i - 1, hints, classes);
         }
-        i += 1;
     }
     answered(s.counts(), n as u32, false)
 }
@@ -162,5 +164,6 @@ pub fn scan_text(text: &[u32], limit: Limit, classes: &[u8], pairs: &[u8]) -> Sc
     ensures { λ r. ⌜ r ≡ scan (now (classes .entry)) (now (pairs .entry)) (now (text .entry)) limit ⌝ }
 {
     let table = class_builtin::table();
-    scan_text_in(text, limit, &table, classes, pairs)
+    let mut hints = [0; HINTS];
+    scan_text_in(text, limit, &mut hints, &table, classes, pairs)
 }

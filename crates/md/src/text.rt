@@ -1,7 +1,10 @@
 // The characters that a scan feeds, and its checkpoints.
 ghost use mathlib.Core.Path.{_≡_};
+ghost use Prim.Native.Nat.{_≤_, _<_};
 ghost use lib.ListN.{length};
+ghost use Rattle.base.specs.Limits.{LONGEST-TEXT};
 ghost use Rattle.md.specs.Text.{charAt, checkpoint};
+ghost use Rattle.md.specs.Inner.Runs.{Nearer, Piece};
 use base::limits::NEWLINE;
 
 // Up to this many characters SHORT_PERIOD is used, then up to MIDDLE_LENGTH MIDDLE_PERIOD, else LONG_PERIOD.
@@ -34,4 +37,29 @@ pub fn at_checkpoint(n: usize, i: usize) -> bool
         return i % MIDDLE_PERIOD == MIDDLE_PERIOD - 1;
     }
     i % LONG_PERIOD == LONG_PERIOD - 1
+}
+
+// The smaller of two indexes.
+fn nearer(a: usize, b: usize) -> usize
+    ensures { λ r. ⌜ Nearer a b r ⌝ }
+{
+    if a < b {
+        return a;
+    }
+    b
+}
+
+// Where the piece of a text of n characters ends in which i stands: past the next checkpoint, or at the end of the text. Each period stands as a
+// constant here too.
+pub fn piece_end(n: usize, i: usize) -> usize
+    requires { ⌜ (i < n) × (n ≤ LONGEST-TEXT) ⌝ }
+    ensures { λ r. ⌜ Piece n i r ⌝ }
+{
+    if n <= SHORT_LENGTH {
+        return nearer(i / SHORT_PERIOD * SHORT_PERIOD + SHORT_PERIOD, n);
+    }
+    if n <= MIDDLE_LENGTH {
+        return nearer(i / MIDDLE_PERIOD * MIDDLE_PERIOD + MIDDLE_PERIOD, n);
+    }
+    nearer(i / LONG_PERIOD * LONG_PERIOD + LONG_PERIOD, n)
 }

@@ -14,9 +14,9 @@ use ratio::Fraction;
 use ratio::counts_of;
 
 // The two characters that stand where a GB encoding renders the stop wrongly.
-const STOP_UP: u32 = 0x4E04;
+pub const STOP_UP: u32 = 0x4E04;
 
-const STOP_DOWN: u32 = 0x4E05;
+pub const STOP_DOWN: u32 = 0x4E05;
 
 // Below so many CJK characters the ratio is 0.
 const FEWEST: u32 = 16;

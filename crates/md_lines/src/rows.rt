@@ -15,6 +15,7 @@ use crate::row::row_of;
 use crate::split::end_of_line;
 use base::Counted;
 use class_builtin::Table;
+use classes::HINTS;
 use md::Scored;
 use md_utf8::rooms::SHORT;
 use md_utf8::rooms::score_larger;
@@ -24,6 +25,7 @@ use md_utf8::rooms::through;
 fn score_line(
     line: &[u8],
     threshold: f32,
+    hints: &mut [usize; HINTS],
     table: &Table,
     classes: &[u8],
     pairs: &[u8],
@@ -37,9 +39,9 @@ fn score_line(
         Counted::Count(count) => {
             let n = count as usize;
             if n <= room.len() {
-                return through(line, n, room, threshold, table, classes, pairs);
+                return through(line, n, room, threshold, hints, table, classes, pairs);
             }
-            score_larger(line, n, threshold, table, classes, pairs)
+            score_larger(line, n, threshold, hints, table, classes, pairs)
         }
     }
 }
@@ -48,6 +50,7 @@ fn score_line(
 fn put_line(
     line: &[u8],
     threshold: f32,
+    hints: &mut [usize; HINTS],
     table: &Table,
     classes: &[u8],
     pairs: &[u8],
@@ -58,7 +61,7 @@ fn put_line(
     requires { ⌜ Lendable threshold (now table) (now classes) (now pairs) × (at + bursts.NUMBERS-PER-LINE ≤ length (now out)) ⌝ }
     ensures { λ _. ⌜ now (out .exit) ≡ put (now (out .entry)) at (bursts.rowOf threshold (now (classes .entry)) (now (pairs .entry)) (now (line .entry))) ⌝ }
 {
-    let row = row_of(score_line(line, threshold, table, classes, pairs, room));
+    let row = row_of(score_line(line, threshold, hints, table, classes, pairs, room));
     put_row(&row, out, at);
 }
 
@@ -68,6 +71,7 @@ pub fn put_rows(bytes: &[u8], threshold: f32, classes: &[u8], pairs: &[u8], out:
     ensures { λ _. ⌜ now (out .exit) ≡ put (now (out .entry)) 0 (bursts.rows threshold (now (classes .entry)) (now (pairs .entry)) (linesOf (now (bytes .entry)))) ⌝ }
 {
     let table = class_builtin::table();
+    let mut hints = [0; HINTS];
     let mut room = [0u32; SHORT];
     let mut from = 0;
     let mut at = 0;
@@ -76,6 +80,7 @@ pub fn put_rows(bytes: &[u8], threshold: f32, classes: &[u8], pairs: &[u8], out:
         put_line(
             &bytes[from..end],
             threshold,
+            &mut hints,
             &table,
             classes,
             pairs,

@@ -3,6 +3,7 @@ ghost use mathlib.Core.Path.{_≡_};
 ghost use Rattle.md_utf8.specs.ScoreUtf8.{messRatioUtf8, messRatioUtf8Default};
 use base::Cause;
 use base::Counted;
+use classes::HINTS;
 use md::DEFAULT_THRESHOLD;
 use md::Scored;
 use md::tables::check_lent;
@@ -20,7 +21,16 @@ pub fn mess_ratio_utf8(bytes: &[u8], threshold: f32, classes: &[u8], pairs: &[u8
             Cause::Refused(fault) => Scored::Refused(fault),
             Cause::Allowed => {
                 let table = class_builtin::table();
-                score_read(bytes, count as usize, threshold, &table, classes, pairs)
+                let mut hints = [0; HINTS];
+                score_read(
+                    bytes,
+                    count as usize,
+                    threshold,
+                    &mut hints,
+                    &table,
+                    classes,
+                    pairs,
+                )
             }
         },
     }

@@ -9,6 +9,7 @@ ghost use Rattle.md_utf8.specs.Inner.Lendable.{Lendable};
 ghost use Rattle.md_utf8.specs.Inner.Rooms as rooms;
 use base::limits::LONGEST_TEXT;
 use class_builtin::Table;
+use classes::HINTS;
 use md::Limit;
 use md::Scored;
 use md::scan::scan_text_in;
@@ -19,11 +20,12 @@ pub const SHORT: usize = 256;
 // Code points of a text that goes through the middle room; a longer one goes through one of LONGEST_TEXT.
 const MIDDLE: usize = 4096;
 
-// The score of n code points. The built-in table is lent, so that a caller with many lines makes it once.
+// The score of n code points. The built-in table and the hints of the lookup are lent, so that a caller with many lines makes them once.
 pub fn score_read(
     bytes: &[u8],
     n: usize,
     threshold: f32,
+    hints: &mut [usize; HINTS],
     table: &Table,
     classes: &[u8],
     pairs: &[u8],
@@ -32,9 +34,9 @@ pub fn score_read(
     ensures { λ r. ⌜ r ≡ messRatio (textOf (now (bytes .entry))) threshold (now (classes .entry)) (now (pairs .entry)) ⌝ }
 {
     if n <= SHORT {
-        return through_short(bytes, n, threshold, table, classes, pairs);
+        return through_short(bytes, n, threshold, hints, table, classes, pairs);
     }
-    score_larger(bytes, n, threshold, table, classes, pairs)
+    score_larger(bytes, n, threshold, hints, table, classes, pairs)
 }
 
 // The same for a text that is too long for the small room. It stands apart, so that the frame of a short text's call is small too.
@@ -42,6 +44,7 @@ pub fn score_larger(
     bytes: &[u8],
     n: usize,
     threshold: f32,
+    hints: &mut [usize; HINTS],
     table: &Table,
     classes: &[u8],
     pairs: &[u8],
@@ -50,15 +53,16 @@ pub fn score_larger(
     ensures { λ r. ⌜ r ≡ messRatio (textOf (now (bytes .entry))) threshold (now (classes .entry)) (now (pairs .entry)) ⌝ }
 {
     if n <= MIDDLE {
-        return through_middle(bytes, n, threshold, table, classes, pairs);
+        return through_middle(bytes, n, threshold, hints, table, classes, pairs);
     }
-    through_long(bytes, n, threshold, table, classes, pairs)
+    through_long(bytes, n, threshold, hints, table, classes, pairs)
 }
 
 fn through_short(
     bytes: &[u8],
     n: usize,
     threshold: f32,
+    hints: &mut [usize; HINTS],
     table: &Table,
     classes: &[u8],
     pairs: &[u8],
@@ -67,13 +71,14 @@ fn through_short(
     ensures { λ r. ⌜ r ≡ messRatio (textOf (now (bytes .entry))) threshold (now (classes .entry)) (now (pairs .entry)) ⌝ }
 {
     let mut room = [0u32; SHORT];
-    through(bytes, n, &mut room, threshold, table, classes, pairs)
+    through(bytes, n, &mut room, threshold, hints, table, classes, pairs)
 }
 
 fn through_middle(
     bytes: &[u8],
     n: usize,
     threshold: f32,
+    hints: &mut [usize; HINTS],
     table: &Table,
     classes: &[u8],
     pairs: &[u8],
@@ -82,13 +87,14 @@ fn through_middle(
     ensures { λ r. ⌜ r ≡ messRatio (textOf (now (bytes .entry))) threshold (now (classes .entry)) (now (pairs .entry)) ⌝ }
 {
     let mut room = [0u32; MIDDLE];
-    through(bytes, n, &mut room, threshold, table, classes, pairs)
+    through(bytes, n, &mut room, threshold, hints, table, classes, pairs)
 }
 
 fn through_long(
     bytes: &[u8],
     n: usize,
     threshold: f32,
+    hints: &mut [usize; HINTS],
     table: &Table,
     classes: &[u8],
     pairs: &[u8],
@@ -97,7 +103,7 @@ fn through_long(
     ensures { λ r. ⌜ r ≡ messRatio (textOf (now (bytes .entry))) threshold (now (classes .entry)) (now (pairs .entry)) ⌝ }
 {
     let mut room = [0u32; LONGEST_TEXT];
-    through(bytes, n, &mut room, threshold, table, classes, pairs)
+    through(bytes, n, &mut room, threshold, hints, table, classes, pairs)
 }
 
 // The text of the bytes, put into the first places of room and scored.
@@ -106,6 +112,7 @@ pub fn through(
     n: usize,
     room: &mut [u32],
     threshold: f32,
+    hints: &mut [usize; HINTS],
     table: &Table,
     classes: &[u8],
     pairs: &[u8],
@@ -117,6 +124,7 @@ pub fn through(
     scan_text_in(
         &room[..n],
         Limit::Threshold(threshold),
+        hints,
         table,
         classes,
         pairs,

@@ -12,23 +12,26 @@ use Rattle.base.proofs.Laws.Causes.{given-yes, free-given}
 use Rattle.base.specs.First.{first}
 use Rattle.base.specs.Inner.First.{firstFrom}
 use Rattle.base.proofs.Laws.First.{first-start, first-hit, first-miss, first-end}
-use Rattle.base.specs.Limits.{LAST-RANGE}
+use Rattle.base.specs.Limits.{LONGEST-TEXT}
 use Rattle.base.specs.Inner.Limits.{LARGEST}
 use Rattle.base.specs.Refusals.{UNCLASSED}
 use Rattle.classes.specs.declared.Class.{Class}
+use Rattle.classes.specs.Inner.Tables.{Tables}
 use Rattle.classes.specs.declared.Found.the-variants.{At, Nothing}
-use Rattle.class_records.specs.Records.{goodTable}
 use Rattle.md_eight.specs.declared.Detectors.{Detectors}
-use Rattle.md_eight.specs.Detectors.{start, lastRange}
-use Rattle.md_eight.specs.Inner.Detectors.{Room, Countable}
-use Rattle.md_eight.proofs.Loops.Detectors.{within-room, within-countable}
+use Rattle.md_eight.specs.Detectors.{start}
+use Rattle.md_eight.specs.Inner.Detectors.{Countable}
+use Rattle.md_eight.proofs.Loops.Detectors.{within-countable}
 use Rattle.md.specs.declared.Limit.{Limit}
 use Rattle.md.specs.declared.Scored.{Scored}
 use Rattle.md.specs.Text.{total, checkpoint}
-use Rattle.md.specs.Scan.{fed, classAt, unclassed, stateAt, stops, sumOf, reaches, scored, acceptedScore, noClass}
+use Rattle.md.specs.Scan.{classAt, unclassed, stateAt, stops, sumOf, reaches, scored, acceptedScore, noClass}
 use Rattle.md.specs.Inner.Scan.{refused, scan}
-use Rattle.md.proofs.Laws.Scan.{is-unclassed, is-classed, state-start, state-more, state-within, state-range, unless-allowed, unless-at}
+use Rattle.md.proofs.Laws.Scan.{is-unclassed, state-start, state-within, unless-allowed, unless-at}
+use Rattle.md.specs.declared.runs.Fed.{Fed}
 use Rattle.md.specs.Inner.Going.{stoppedAfter}
+use Rattle.md.specs.Inner.Runs.{Before, Advanced}
+use Rattle.md.proofs.Laws.Rest.{first-passed}
 
 module _ (classes text : List ℕ) (s : Detectors) (i bad : ℕ) (b : bad ≡ firstFrom (unclassed classes text) (total text) (i + 1)) where
   pub stopped-missing : bad ≤ length text → refused UNCLASSED bad ≡ stoppedAfter classes text s i
@@ -58,15 +61,12 @@ module _ (classes pairs text : List ℕ) (limit : Limit) where
       }
 
   module _ {n : ℕ} {s : Detectors} {i : ℕ} (g : Going n s i) where
-    -- a state under way has room for one character more, and remembers a range that the pair table knows
-    pub going-room : n ≤ LARGEST → Room s
-    going-room h = within-room i s (rw (g .state) (state-within classes pairs text i)) (omega (arith, g .below))
-
     pub going-countable : n ≤ LARGEST → Countable s
     going-countable h = within-countable i s (rw (g .state) (state-within classes pairs text i)) (omega (arith, g .below))
 
-    pub going-range : goodTable classes ≡ true → lastRange s ≤ LAST-RANGE
-    going-range t = rw (g .state) (state-range classes pairs text t i)
+    -- what a step asks for
+    pub going-before : Tables classes pairs → length text ≤ LONGEST-TEXT → (c : Class) → i < n → classAt classes text i ≡ At c → Before classes pairs text s c i
+    going-before t h c l e = record { tables = t; short = h; inside = omega (arith, l, g .counted); state = g .state; class = e }
 
     -- the character has no class
     pub going-missing : i < n → classAt classes text i ≡ Nothing → refused UNCLASSED i ≡ scan classes pairs text limit
@@ -77,42 +77,54 @@ module _ (classes pairs text : List ℕ) (limit : Limit) where
         sym (g .classed) ∙ first-hit (unclassed classes text) (total text) i l (is-unclassed classes text i e) in
         sym (unless-at _ _ UNCLASSED i (rw u (given-yes _ UNCLASSED i (lt-ltb i (total text) l))))
 
-    module _ (c : Class) (t : Detectors) (h : i < n) (e : classAt classes text i ≡ At c) (f : t ≡ fed pairs s c) where
-      pub fed-state : t ≡ stateAt classes pairs text (i + 1)
-      fed-state = f ∙ rw (g .state) (sym (state-more classes pairs text i c e))
+    -- a step of the scan
+    module _ (r : Fed) (v : Advanced classes pairs text i r) where
+      pub fed-countable : n ≤ LARGEST → Countable (r .state)
+      fed-countable m = within-countable (r .next) (r .state) (rw (v .state) (state-within classes pairs text (r .next))) (omega (arith, m, v .ends, g .counted))
 
-      pub fed-countable : n ≤ LARGEST → Countable t
-      fed-countable m = within-countable (i + 1) t (rw fed-state (state-within classes pairs text (i + 1))) (omega arith)
+      -- the last character that it fed stands at j
+      module _ (j : ℕ) (z : j + 1 ≡ r .next) where
+        pub fed-state : r .state ≡ stateAt classes pairs text (j + 1)
+        fed-state = v .state ∙ rw z
 
-      fed-classed : firstFrom (unclassed classes text) (total text) (i + 1) ≡ first (unclassed classes text) (total text)
-      fed-classed =
-          sym (first-miss (unclassed classes text) (total text) i (omega (arith, g .counted)) (is-classed classes text i c e)) ∙ g .classed
+        fed-classed : firstFrom (unclassed classes text) (total text) (j + 1) ≡ first (unclassed classes text) (total text)
+        fed-classed =
+            rw z (sym (first-passed (unclassed classes text) (total text) i (r .next) (omega (arith, v .begins)) (v .ends) (v .classed)) ∙ g .classed)
 
-      fed-over : (o : Bool) → o ≡ (checkpoint (length text) i && reaches limit (sumOf t)) → stops classes pairs text limit i ≡ o
-      unfolding stops
-      fed-over o p = sym (p ∙ rw fed-state)
+        fed-over : (o : Bool) → o ≡ (checkpoint (length text) j && reaches limit (sumOf (r .state))) → stops classes pairs text limit j ≡ o
+        unfolding stops
+        fed-over o p = sym (p ∙ rw fed-state)
 
-      -- the scan goes on
-      pub going-on : (o : Bool) → o ≡ (checkpoint (length text) i && reaches limit (sumOf t)) → o ≡ false → Going n t (i + 1)
-      going-on o p q =
-          record {
-            below = omega arith;
-            counted = g .counted;
-            state = fed-state;
-            running =
-                sym (first-miss (stops classes pairs text limit) (total text) i (omega (arith, g .counted)) (fed-over o p ∙ q)) ∙ g .running;
-            classed = fed-classed;
-          }
+        -- no checkpoint stands before j
+        fed-quiet : (k : ℕ) → i ≤ k → k < j → stops classes pairs text limit k ≡ false
+        unfolding stops
+        fed-quiet k a l = rw (v .quiet k a (omega (arith, l, z)))
 
-      -- the scan stops
-      pub going-stopped : (o : Bool) → o ≡ (checkpoint (length text) i && reaches limit (sumOf t)) → o ≡ true
-          → (a : Scored) → a ≡ stoppedAfter classes text t i → a ≡ scan classes pairs text limit
-      unfolding scan noClass acceptedScore stoppedAfter
-      going-stopped o p q a d =
-          let h′ : i < total text = omega (arith, g .counted) in
-          let k : first (stops classes pairs text limit) (total text) ≡ i =
-          sym (g .running) ∙ first-hit (stops classes pairs text limit) (total text) i h′ (fed-over o p ∙ q) in
-          d ∙ simp (k, lt-ltb i (total text) h′, fed-classed) (rw fed-state)
+        fed-running : firstFrom (stops classes pairs text limit) (total text) i ≡ firstFrom (stops classes pairs text limit) (total text) j
+        fed-running = first-passed (stops classes pairs text limit) (total text) i j (omega (arith, z, v .begins)) (omega (arith, z, v .ends)) fed-quiet
+
+        -- the scan goes on
+        pub going-on : (o : Bool) → o ≡ (checkpoint (length text) j && reaches limit (sumOf (r .state))) → o ≡ false → Going n (r .state) (r .next)
+        going-on o p q =
+            record {
+              below = omega (arith, v .ends, g .counted);
+              counted = g .counted;
+              state = v .state;
+              running =
+                  rw (← z)
+                  (sym (fed-running ∙ first-miss (stops classes pairs text limit) (total text) j (omega (arith, z, v .ends)) (fed-over o p ∙ q)) ∙ g .running);
+              classed = rw (← z) fed-classed;
+            }
+
+        -- the scan stops
+        pub going-stopped : (o : Bool) → o ≡ (checkpoint (length text) j && reaches limit (sumOf (r .state))) → o ≡ true
+            → (a : Scored) → a ≡ stoppedAfter classes text (r .state) j → a ≡ scan classes pairs text limit
+        unfolding scan noClass acceptedScore stoppedAfter
+        going-stopped o p q a d =
+            let h′ : j < total text = omega (arith, z, v .ends) in
+            let k : first (stops classes pairs text limit) (total text) ≡ j =
+            sym (g .running) ∙ fed-running ∙ first-hit (stops classes pairs text limit) (total text) j h′ (fed-over o p ∙ q) in
+            d ∙ simp (k, lt-ltb j (total text) h′, fed-classed) (rw fed-state)
 
     -- every character was fed
     pub going-ended : n ≤ i → scored s n false ≡ scan classes pairs text limit

@@ -11,10 +11,10 @@ use Rattle.md_utf8.proofs.mess_ratio_utf8.Tie as tie
 
 score-read-requires : tie.Need-score-read-requires
 score-read-requires c κs =
-    let lent = c .before .before in
+    let lent = c .before .before .before in
     let met = lent .before .before .before .before in (
       readable _ _ (sym (met .before .before .count-utf8 .ensures) ∙ met .count .given .1),
-      lendable _ _ _ _ (sym (lent .before .before .check-lent .ensures) ∙ lent .enum-told .given .1) (c .before .table .ensures),
+      lendable _ _ _ _ (sym (lent .before .before .check-lent .ensures) ∙ lent .enum-told .given .1) (c .before .before .table .ensures),
     )
 
 returns : tie.Need-returns
@@ -33,7 +33,7 @@ returns-2 c =
 
 returns-3 : tie.Need-returns-3
 returns-3 c =
-    let met = c .before .before .before .before .before .before .before in
+    let met = c .before .before .before .before .before .before .before .before in
     read _ _ _ _ _ (sym (met .before .before .count-utf8 .ensures) ∙ met .count .given .1) _ (c .score-read .ensures)
 
 pub mess-ratio-utf8-spec : {M : Type 1} → statement M

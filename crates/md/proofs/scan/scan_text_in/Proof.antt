@@ -3,16 +3,17 @@
 use Prim.Native.Nat.{_-_}
 use mathlib.Core.Path.{sym, _∙_}
 use native.Mathlib.Omega.{arith}
-use Rattle.md.proofs.Loops.Going.{Going, going-start, going-room, going-countable, going-range, going-missing, fed-countable, going-on, going-stopped, going-ended}
-use Rattle.md.proofs.Laws.Scan.{class-range, answered-state}
+use Rattle.md.proofs.Loops.Going.{Going, going-start, going-before, going-countable, going-missing, fed-countable, going-on, going-stopped, going-ended}
+use Rattle.md.proofs.Laws.Scan.{answered-state}
+use borrow.Author.Needs.{needs}
 use Rattle.md.proofs.scan.scan_text_in.Statement.{statement}
 use Rattle.md.proofs.scan.scan_text_in.Tie as tie
 
 abbrev Inv-loop : tie.InvT-loop
-Inv-loop text limit table classes pairs n s₀ i₀ s i = Going classes pairs text limit n s i
+Inv-loop text limit hints₀ table classes pairs n s₀ i₀ hints s i = Going classes pairs text limit n s i
 
 abbrev μ-loop : tie.MeasureT-loop
-μ-loop text limit table classes pairs n s₀ i₀ s i = n - i
+μ-loop text limit hints₀ table classes pairs n s₀ i₀ hints s i = n - i
 
 add-n : tie.Need-add-n Inv-loop μ-loop
 add-n c = omega arith
@@ -25,8 +26,8 @@ loop-holds c = going-start _ _ _ _ _ (c .start .ensures)
 
 class-at-requires : tie.Need-class-at-requires Inv-loop μ-loop
 class-at-requires c κs =
-    let entry = c .before .before .before .before .before .before in
-    (entry .pre .tables .good, entry .pre .builtin)
+    let asked = c .before .before .before .before .before .before .before .pre in
+    (asked .tables .good, asked .builtin)
 
 enum-known-c : tie.Need-enum-known-c Inv-loop μ-loop
 enum-known-c c = c .match .keys1
@@ -35,96 +36,91 @@ enum-told : tie.Need-enum-told Inv-loop μ-loop
 enum-told c = c .match .keys2
 
 cast-unscored : tie.Need-cast-unscored Inv-loop μ-loop
-cast-unscored c = omega arith
+cast-unscored c =
+    let at-loop-test = c .before .before .before .before .loop-test in
+    let at-pre = c .before .before .before .before .before .before .before .before .before .before .pre in
+    omega (arith, at-loop-test .taken, at-pre .short)
 
 unscored-requires : tie.Need-unscored-requires Inv-loop μ-loop
 unscored-requires c κs = tt
 
 returns : tie.Need-returns Inv-loop μ-loop
 returns c =
-    let turn = c .before .before .before .before in
+    let at-loop = c .before .before .before .before .before .before .loop in
+    let at-loop-test = c .before .before .before .before .before .loop-test in
     c .unscored .ensures
-    ∙ going-missing _ _ _ _ (turn .before .loop .inv) (turn .loop-test .taken)
+    ∙ going-missing _ _ _ _ (at-loop .inv) (at-loop-test .taken)
     (sym (c .before .before .before .class-at .ensures) ∙ c .before .enum-told .given .1)
 
-fed-requires : tie.Need-fed-requires Inv-loop μ-loop
-fed-requires c κs =
-    let turn = c .before .before .before .before in
-    let entry = turn .before .before .before .before .before .before in
-    let going = turn .before .loop .inv in (
-      going-room _ _ _ _ going (omega arith),
-      entry .pre .tables .fits,
-      going-range _ _ _ _ going (entry .pre .tables .good),
-      class-range _ _ (entry .pre .tables .good) _ _ (sym (c .before .before .before .class-at .ensures) ∙ c .before .c .given .1),
-    )
+fed-run-requires : tie.Need-fed-run-requires Inv-loop μ-loop
+fed-run-requires c κs =
+    let at-loop = c .before .before .before .before .before .before .before .loop in
+    let at-loop-test = c .before .before .before .before .before .before .loop-test in
+    let at-class-at = c .before .before .before .before .class-at in
+    let asked = c .before .before .before .before .before .before .before .before .before .before .before .before .pre in
+    going-before _ _ _ _ (at-loop .inv) (asked .tables) (asked .short) _ (at-loop-test .taken)
+    (sym (at-class-at .ensures) ∙ c .before .before .c .given .1)
+
+sub-is-over : tie.Need-sub-is-over Inv-loop μ-loop
+sub-is-over c = omega (arith, c .before .fed-run .ensures .begins)
 
 is-over-requires : tie.Need-is-over-requires Inv-loop μ-loop
 is-over-requires c κs =
-    let fed = c in
-    let turn = fed .before .before .before .before .before in
-    let entry = turn .before .before .before .before .before .before in
-    fed-countable _ _ _ _ (turn .before .loop .inv) _ _ (turn .loop-test .taken)
-    (sym (fed .before .before .before .before .class-at .ensures) ∙ fed .before .before .c .given .1)
-    (fed .fed .ensures)
-    (omega (arith, entry .pre .short))
+    let at-loop = c .before .before .before .before .before .before .before .before .before .loop in
+    let asked = c .before .before .before .before .before .before .before .before .before .before .before .before .before .before .pre in
+    fed-countable _ _ _ _ (at-loop .inv) _ (c .before .fed-run .ensures) (omega (arith, asked .short))
+
+sub-stopped-after : tie.Need-sub-stopped-after Inv-loop μ-loop
+sub-stopped-after c = omega (arith, c .before .before .before .fed-run .ensures .begins)
 
 stopped-after-requires : tie.Need-stopped-after-requires Inv-loop μ-loop
 stopped-after-requires c κs =
-    let fed = c .before .before in
-    let turn = fed .before .before .before .before .before in
-    let entry = turn .before .before .before .before .before .before in (
-      entry .pre .tables .good,
-      entry .pre .short,
-      turn .loop-test .taken,
-      fed-countable _ _ _ _ (turn .before .loop .inv) _ _ (turn .loop-test .taken)
-          (sym (fed .before .before .before .before .class-at .ensures) ∙ fed .before .before .c .given .1)
-          (fed .fed .ensures)
-          (omega (arith, entry .pre .short)),
-      entry .pre .builtin,
+    let at-loop = c .before .before .before .before .before .before .before .before .before .before .before .before .loop in
+    let asked = c .before .before .before .before .before .before .before .before .before .before .before .before .before .before .before .before .before .pre in
+    let went = c .before .before .before .before .fed-run in (
+      asked .tables .good,
+      asked .short,
+      omega (arith, went .ensures .begins, went .ensures .ends),
+      fed-countable _ _ _ _ (at-loop .inv) _ (went .ensures) (omega (arith, asked .short)),
     )
 
 returns-2 : tie.Need-returns-2 Inv-loop μ-loop
 returns-2 c =
-    let fed = c .before .before .before in
-    let turn = fed .before .before .before .before .before in
-    going-stopped _ _ _ _ (turn .before .loop .inv) _ _ (turn .loop-test .taken)
-    (sym (fed .before .before .before .before .class-at .ensures) ∙ fed .before .before .c .given .1)
-    (fed .fed .ensures)
+    let at-loop = c .before .before .before .before .before .before .before .before .before .before .before .before .before .loop in
+    let went = c .before .before .before .before .before .fed-run in
+    going-stopped _ _ _ _ (at-loop .inv) _ (went .ensures) _ (omega (arith, went .ensures .begins))
     _
-    (c .before .before .is-over .ensures)
-    (c .before .if1 .taken)
+    (c .before .before .before .is-over .ensures)
+    (c .before .before .if1 .taken)
     _
     (c .stopped-after .ensures)
 
-add-i : tie.Need-add-i Inv-loop μ-loop
-add-i c =
-    let fed = c .before .before in
-    let turn = fed .before .before .before .before .before in
-    let entry = turn .before .before .before .before .before .before in
-    omega (arith, turn .loop-test .taken, entry .pre .short)
-
 loop-less : tie.Need-loop-less Inv-loop μ-loop
-loop-less c = omega arith
+loop-less c =
+    let at-loop-test = c .before .before .before .before .before .before .before .before .before .before .loop-test in
+    omega (arith, c .before .before .before .fed-run .ensures .begins, at-loop-test .taken)
 
 loop-again : tie.Need-loop-again Inv-loop μ-loop
 loop-again c =
-    let fed = c .before .before in
-    let turn = fed .before .before .before .before .before in
-    going-on _ _ _ _ (turn .before .loop .inv) _ _ (turn .loop-test .taken)
-    (sym (fed .before .before .before .before .class-at .ensures) ∙ fed .before .before .c .given .1)
-    (fed .fed .ensures)
+    let at-loop = c .before .before .before .before .before .before .before .before .before .before .before .loop in
+    let went = c .before .before .before .fed-run in
+    going-on _ _ _ _ (at-loop .inv) _ (went .ensures) _ (omega (arith, went .ensures .begins))
     _
     (c .before .is-over .ensures)
     (c .if1 .left)
 
 counts-requires : tie.Need-counts-requires Inv-loop μ-loop
-counts-requires c κs = going-countable _ _ _ _ (c .before .loop .inv) (omega arith)
+counts-requires c κs =
+    let at-pre = c .before .before .before .before .before .before .pre in
+    going-countable _ _ _ _ (c .before .loop .inv) (omega (arith, at-pre .short))
 
 cast-answered : tie.Need-cast-answered Inv-loop μ-loop
 cast-answered c = omega arith
 
 answered-requires : tie.Need-answered-requires Inv-loop μ-loop
-answered-requires c κs = rw (c .counts .ensures) (going-countable _ _ _ _ (c .before .before .loop .inv) (omega arith))
+answered-requires c κs =
+    let at-pre = c .before .before .before .before .before .before .before .pre in
+    rw (c .counts .ensures) (going-countable _ _ _ _ (c .before .before .loop .inv) (omega (arith, at-pre .short)))
 
 returns-3 : tie.Need-returns-3 Inv-loop μ-loop
 returns-3 c =
@@ -147,11 +143,12 @@ scan-text-in-spec =
     cast-unscored
     unscored-requires
     returns
-    fed-requires
+    fed-run-requires
+    sub-is-over
     is-over-requires
+    sub-stopped-after
     stopped-after-requires
     returns-2
-    add-i
     loop-less
     loop-again
     counts-requires

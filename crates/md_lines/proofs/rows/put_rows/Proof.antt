@@ -11,51 +11,58 @@ use Rattle.md_lines.proofs.rows.put_rows.Statement.{statement}
 use Rattle.md_lines.proofs.rows.put_rows.Tie as tie
 
 abbrev Inv-loop : tie.InvT-loop
-Inv-loop bytes threshold classes pairs out₀ table room₀ from₀ at₀ out room from at = Filling threshold classes pairs bytes out₀ out from at × (length room ≡ SHORT)
+Inv-loop bytes threshold classes pairs out₀ table hints₀ room₀ from₀ at₀ out hints room from at =
+    Filling threshold classes pairs bytes out₀ out from at × (length room ≡ SHORT)
 
 abbrev μ-loop : tie.MeasureT-loop
-μ-loop bytes threshold classes pairs out₀ table room₀ from₀ at₀ out room from at = length bytes + 1 - from
+μ-loop bytes threshold classes pairs out₀ table hints₀ room₀ from₀ at₀ out hints room from at = length bytes + 1 - from
 
 table-requires : tie.Need-table-requires Inv-loop μ-loop
 table-requires c κs = tt
 
 loop-holds : tie.Need-loop-holds Inv-loop μ-loop
-loop-holds c = (filling-start _ _ _ _ _ (c .before .before .before .before .before .pre .2), search needs)
+loop-holds c =
+    let at-pre = c .before .before .before .before .before .pre in
+    (filling-start _ _ _ _ _ (at-pre .2), search needs)
 
 put-line-requires : tie.Need-put-line-requires Inv-loop μ-loop
 put-line-requires c κs =
-    let ended = c .before .before .before .before in
-    let turn = ended .before in
-    let entry = turn .before .before .before .before .before .before .before in (
-      lendable _ _ _ _ (entry .pre .1) (turn .before .before .table .ensures),
-      filling-room _ _ _ _ _ _ _ _ (turn .before .loop .inv .0) _ (turn .loop-test .taken) (ended .end-of-line .ensures),
+    let at-table = c .before .before .before .before .before .before .before .before .table in
+    let at-loop = c .before .before .before .before .before .before .before .loop in
+    let ended = c .before .before .before .before .before .end-of-line in
+    let turn = c .before .before .before .before .before .before .loop-test in
+    let entry = c .before .before .before .before .before .before .before .before .before .before .before .before .before .pre in (
+      lendable _ _ _ _ (entry .1) (at-table .ensures),
+      filling-room _ _ _ _ _ _ _ _ (at-loop .inv .0) _ (turn .taken) (ended .ensures),
     )
 
 add-from : tie.Need-add-from Inv-loop μ-loop
 add-from c =
-    let at-end-of-line = c .before .before .before .before .before .before .before .before in
-    let asked = at-end-of-line .before .before .before .before .before .before .before .before in
-    omega (arith, at-end-of-line .end-of-line .ensures .inside, asked .pre .0)
+    let ended = c .before .before .before .before .before .before .before .before .before .end-of-line in
+    let entry = c .before .before .before .before .before .before .before .before .before .before .before .before .before .before .before .before .before .pre in
+    omega (arith, ended .ensures .inside, entry .0)
 
 add-at : tie.Need-add-at Inv-loop μ-loop
 add-at c =
-    let ended = c .before .before .before .before .before .before .before .before in
-    let turn = ended .before in
-    let entry = turn .before .before .before .before .before .before .before in
-    let small = filling-small _ _ _ _ _ _ _ _ (turn .before .loop .inv .0) _ (turn .loop-test .taken) (ended .end-of-line .ensures) (entry .pre .0) in
+    let ended = c .before .before .before .before .before .before .before .before .before .end-of-line in
+    let turn = c .before .before .before .before .before .before .before .before .before .before .loop-test in
+    let entry = c .before .before .before .before .before .before .before .before .before .before .before .before .before .before .before .before .before .pre in
+    let at-loop = c .before .before .before .before .before .before .before .before .before .before .before .loop in
+    let small = filling-small _ _ _ _ _ _ _ _ (at-loop .inv .0) _ (turn .taken) (ended .ensures) (entry .0) in
     omega (arith, small)
 
 loop-less : tie.Need-loop-less Inv-loop μ-loop
 loop-less c =
-    let at-end-of-line = c .before .before .before .before .before .before .before .before in
-    let at-loop-test = at-end-of-line .before in
-    omega (arith, at-end-of-line .end-of-line .ensures .begins, at-loop-test .loop-test .taken)
+    let ended = c .before .before .before .before .before .before .before .before .before .end-of-line in
+    let turn = c .before .before .before .before .before .before .before .before .before .before .loop-test in
+    omega (arith, ended .ensures .begins, turn .taken)
 
 loop-again : tie.Need-loop-again Inv-loop μ-loop
 loop-again c =
-    let ended = c .before .before .before .before .before .before .before .before in
-    let turn = ended .before in (
-      filling-more _ _ _ _ _ _ _ _ (turn .before .loop .inv .0) _ (turn .loop-test .taken) (ended .end-of-line .ensures) _ (c .before .before .before .put-line .ensures),
+    let ended = c .before .before .before .before .before .before .before .before .before .end-of-line in
+    let turn = c .before .before .before .before .before .before .before .before .before .before .loop-test in
+    let at-loop = c .before .before .before .before .before .before .before .before .before .before .before .loop in (
+      filling-more _ _ _ _ _ _ _ _ (at-loop .inv .0) _ (turn .taken) (ended .ensures) _ (c .before .before .before .put-line .ensures),
       search needs,
     )
 

@@ -12,14 +12,14 @@ slice-aggregate-scan-text-in c = simp length-take (omega arith)
 
 scan-text-in-requires : tie.Need-scan-text-in-requires
 scan-text-in-requires c κs =
-    let filling = c .before .before .before in
+    let filling = c .before .before .before .before in
     let entry = filling .before .before .before .before .before .before in
     rw (filling .fill .ensures, text-back _ _ _ (entry .pre .0 .count))
     (lendable-ready _ _ _ _ (entry .pre .2) _ (omega (arith, entry .pre .0 .few, entry .pre .0 .count)))
 
 returns : tie.Need-returns
 returns c =
-    let filling = c .before .before .before .before in
+    let filling = c .before .before .before .before .before in
     let entry = filling .before .before .before .before .before .before in
     rw (c .scan-text-in .ensures, filling .fill .ensures, text-back _ _ _ (entry .pre .0 .count))
     (lendable-scan _ _ _ _ (entry .pre .2) _ (omega (arith, entry .pre .0 .few, entry .pre .0 .count)))

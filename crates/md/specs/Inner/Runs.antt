@@ -1,0 +1,86 @@
+-- Words of inner contracts: characters of one kind in a row that are fed at once. No public promise rests on them.
+-- Assumes nothing.
+use Prim.Native.Nat.{ℕ, _+_, _-_, _≤_, _<_}
+use mathlib.Core.Path.{_≡_}
+use mathlib.Core.Bool.{true, false}
+use mathlib.Core.List.{List}
+use lib.ListN.{length}
+use Rattle.base.specs.Limits.{BUILTIN-END, LONGEST-TEXT}
+use Rattle.class_records.specs.Records.{records, recordAt, goodTable, holder}
+use Rattle.classes.specs.declared.Class.{Class}
+use Rattle.classes.specs.declared.Found.the-variants.{At}
+use Rattle.classes.specs.Inner.Tables.{Tables}
+use Rattle.classes.specs.Pairs.{suspicious}
+use Rattle.md_counts.specs.CjkInvalidStop.{wrongStop, STOP-UP, STOP-DOWN}
+use Rattle.md_eight.specs.declared.Detectors.{Detectors}
+use Rattle.md_eight.specs.Detectors.{lastRange}
+use Rattle.md_eight.specs.Inner.Runs.{casedRun, lowerClass, LOWER-FIRST, LOWER-LAST, BASIC-LATIN}
+use Rattle.md.specs.declared.runs.Alike.{Alike}
+use Rattle.md.specs.declared.runs.Fed.{Fed}
+use Rattle.md.specs.Text.{charAt, total, checkpoint}
+use Rattle.md.specs.Scan.{classAt, stateAt, unclassed}
+
+-- r is the smaller of a and b
+pub record Nearer (a b r : ℕ) : Type 0 where
+  pub first : r ≤ a
+  pub second : r ≤ b
+  pub some : (x : ℕ) → x < a → x < b → x < r
+
+-- no index from i on is a checkpoint but the last before r
+pub record Piece (n i r : ℕ) : Type 0 where
+  pub begins : i < r
+  pub ends : r ≤ n
+  pub quiet : (j : ℕ) → i ≤ j → j + 1 < r → checkpoint n j ≡ false
+
+-- the same, the characters behind i lying from low to high
+pub record Run (text : List ℕ) (low high i r : ℕ) : Type 0 where
+  pub begins : i < r
+  pub ends : r ≤ length text
+  pub quiet : (j : ℕ) → i ≤ j → j + 1 < r → checkpoint (length text) j ≡ false
+  pub least : (j : ℕ) → i < j → j < r → low ≤ charAt text j
+  pub most : (j : ℕ) → i < j → j < r → charAt text j ≤ high
+
+-- the two wrong stops, which stand side by side, are not between p and what a record begins and ends with
+pub record Low (first p r : ℕ) : Type 0 where
+  pub least : first ≤ r
+  pub past : STOP-DOWN < p → STOP-DOWN < r
+
+pub record High (last p r : ℕ) : Type 0 where
+  pub most : r ≤ last
+  pub before : p < STOP-UP → r < STOP-UP
+
+-- a record of a good table holds p, which is no wrong stop
+pub record Lent (classes : List ℕ) (p : ℕ) : Type 0 where
+  pub good : goodTable classes ≡ true
+  pub held : holder classes p < records classes
+  pub right : wrongStop p ≡ false
+
+-- the code points from low to high are held by p's record, and none is a wrong stop
+pub record AlikeOf (classes : List ℕ) (p : ℕ) (a : Alike) : Type 0 where
+  pub base : a .base ≡ recordAt classes (holder classes p) .base
+  pub from : (q : ℕ) → a .low ≤ q → recordAt classes (holder classes p) .first ≤ q
+  pub to : (q : ℕ) → q ≤ a .high → q ≤ recordAt classes (holder classes p) .last
+  pub right : (q : ℕ) → a .low ≤ q → q ≤ a .high → wrongStop q ≡ false
+
+-- a run of ASCII's lower-case letters behind i, and what the eight come to with the one at i
+pub record LowerRun (pairs text : List ℕ) (s : Detectors) (i : ℕ) (r : Fed) : Type 0 where
+  pub run : Run text LOWER-FIRST LOWER-LAST i (r .next)
+  pub state : r .state
+      ≡ casedRun s (lowerClass (charAt text (r .next - 1))) (r .next - i) (charAt text (r .next - 1)) (charAt text (r .next - 1))
+      (suspicious pairs (lastRange s) BASIC-LATIN) (suspicious pairs BASIC-LATIN BASIC-LATIN)
+
+-- before a step of the scan: the state is that after i characters, and the lookup found c at i
+pub record Before (classes pairs text : List ℕ) (s : Detectors) (c : Class) (i : ℕ) : Type 0 where
+  pub tables : Tables classes pairs
+  pub short : length text ≤ LONGEST-TEXT
+  pub inside : i < total text
+  pub state : s ≡ stateAt classes pairs text i
+  pub class : classAt classes text i ≡ At c
+
+-- after it: the state is that after the characters up to the next, which all have a class; the scan might have stopped after the last of them, not before
+pub record Advanced (classes pairs text : List ℕ) (i : ℕ) (r : Fed) : Type 0 where
+  pub begins : i < r .next
+  pub ends : r .next ≤ total text
+  pub state : r .state ≡ stateAt classes pairs text (r .next)
+  pub classed : (j : ℕ) → i ≤ j → j < r .next → unclassed classes text j ≡ false
+  pub quiet : (j : ℕ) → i ≤ j → j + 1 < r .next → checkpoint (length text) j ≡ false

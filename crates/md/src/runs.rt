@@ -1,0 +1,208 @@
+// Characters of one kind in a row, fed at once: each step comes to what the characters come to one by one. A run ends at a checkpoint at the latest, and
+// before the newline, U+4E04 and U+4E05.
+ghost use mathlib.Core.Path.{_≡_};
+ghost use mathlib.Core.Bool.{true};
+ghost use Prim.Native.Nat.{_≤_, _<_};
+ghost use lib.ListN.{length};
+ghost use Rattle.base.specs.Limits.{LONGEST-TEXT, LAST-RANGE, PAIR-BYTES};
+ghost use Rattle.classes.specs.Lookup.{orSelf};
+ghost use Rattle.md_eight.specs.Detectors.{lastRange};
+ghost use Rattle.md_eight.specs.Inner.Detectors.{Room};
+ghost use Rattle.md_eight.specs.Inner.Runs as kinds;
+ghost use Rattle.md.specs.Inner.Runs.{Low, High, AlikeOf, Run, LowerRun, Before, Lent, Advanced};
+use crate::rest::past_within;
+use crate::scan::fed;
+use crate::text::piece_end;
+use base::limits::BUILTIN_END;
+use class_records::record_at;
+use classes::Class;
+use classes::HINTS;
+use classes::held_near;
+use classes::is_suspicious;
+use md_counts::cjk_invalid_stop::STOP_DOWN;
+use md_counts::cjk_invalid_stop::STOP_UP;
+use md_counts::cjk_invalid_stop::wrong_stop;
+use md_eight::Detectors;
+use md_eight::runs::BASIC_LATIN;
+use md_eight::runs::SPACE;
+use md_eight::runs::is_cased;
+use md_eight::runs::is_punctuation;
+use md_eight::runs::is_uncased;
+
+// ASCII's lower-case letters.
+const LOWER_FIRST: u32 = 0x61;
+
+const LOWER_LAST: u32 = 0x7A;
+
+// What a step of the scan comes to: the state, and the index of the character that comes next.
+pub struct Fed {
+    pub state: Detectors,
+    pub next: usize,
+}
+
+// The code points around one, low to high, that its record holds, with no wrong stop among them; and the record's base, 0 for the character itself.
+pub struct Alike {
+    pub low: u32,
+    pub high: u32,
+    pub base: u32,
+}
+
+// Where the characters from low to high behind the one at i end, or the piece of the text that it stands in.
+fn run_end(text: &[u32], i: usize, low: u32, high: u32) -> usize
+    requires { ⌜ (i < length (now text)) × (length (now text) ≤ LONGEST-TEXT) ⌝ }
+    ensures { λ r. ⌜ Run (now (text .entry)) low high i r ⌝ }
+{
+    past_within(text, i + 1, piece_end(text.len(), i), low, high)
+}
+
+// The first of a record, or the code point past the wrong stops where p stands past them.
+fn past_stops(first: u32, p: u32) -> u32
+    ensures { λ r. ⌜ Low first p r ⌝ }
+{
+    if (first <= STOP_DOWN) & (STOP_DOWN < p) {
+        return STOP_DOWN + 1;
+    }
+    first
+}
+
+// The last of a record, or the code point before the wrong stops where p stands before them.
+fn before_stops(last: u32, p: u32) -> u32
+    ensures { λ r. ⌜ High last p r ⌝ }
+{
+    if (STOP_UP <= last) & (p < STOP_UP) {
+        return STOP_UP - 1;
+    }
+    last
+}
+
+// The characters that are as p is, which a record holds.
+fn kin_of(p: u32, hints: &mut [usize; HINTS], classes: &[u8]) -> Alike
+    requires { ⌜ Lent (now classes) p ⌝ }
+    ensures { λ r. ⌜ AlikeOf (now (classes .entry)) p r ⌝ }
+{
+    let r = record_at(classes, held_near(p, hints, classes));
+    Alike {
+        low: past_stops(r.first, p),
+        high: before_stops(r.last, p),
+        base: r.base,
+    }
+}
+
+// The base of a letter: itself where its record has none.
+fn own_base(base: u32, point: u32) -> u32
+    ensures { λ r. ⌜ r ≡ orSelf base point ⌝ }
+{
+    if base == 0 {
+        return point;
+    }
+    base
+}
+
+// ASCII's lower-case letters from i on.
+fn fed_lower(s: Detectors, text: &[u32], i: usize, pairs: &[u8]) -> Fed
+    requires { ⌜ Room s × (length (now pairs) ≡ PAIR-BYTES) × (lastRange s ≤ LAST-RANGE) × (i < length (now text)) × (length (now text) ≤ LONGEST-TEXT) ⌝ }
+    ensures { λ r. ⌜ LowerRun (now (pairs .entry)) (now (text .entry)) s i r ⌝ }
+{
+    let next = run_end(text, i, LOWER_FIRST, LOWER_LAST);
+    let suspicious = is_suspicious(pairs, s.last_range(), BASIC_LATIN);
+    let again = is_suspicious(pairs, BASIC_LATIN, BASIC_LATIN);
+    Fed {
+        state: s.lower_run((next - i) as u32, text[next - 1], suspicious, again),
+        next,
+    }
+}
+
+// Letters of one case that one record holds, from i on. The first of them is of class c; the base of the last is its own where the record has none.
+fn fed_cased(
+    s: Detectors,
+    c: Class,
+    text: &[u32],
+    i: usize,
+    hints: &mut [usize; HINTS],
+    classes: &[u8],
+    pairs: &[u8],
+) -> Fed
+    requires { ⌜ Before (now classes) (now pairs) (now text) s c i × Lent (now classes) (c .point) × (kinds.isCased (c .flags) ≡ true) ⌝ }
+    ensures { λ r. ⌜ Advanced (now (classes .entry)) (now (pairs .entry)) (now (text .entry)) i r ⌝ }
+{
+    let near = kin_of(c.point, hints, classes);
+    let next = run_end(text, i, near.low, near.high);
+    let last = text[next - 1];
+    let suspicious = is_suspicious(pairs, s.last_range(), c.range);
+    let again = is_suspicious(pairs, c.range, c.range);
+    Fed {
+        state: s.cased_run(
+            c,
+            (next - i) as u32,
+            last,
+            own_base(near.base, last),
+            suspicious,
+            again,
+        ),
+        next,
+    }
+}
+
+// The same for characters without case.
+fn fed_uncased(
+    s: Detectors,
+    c: Class,
+    text: &[u32],
+    i: usize,
+    hints: &mut [usize; HINTS],
+    classes: &[u8],
+    pairs: &[u8],
+) -> Fed
+    requires { ⌜ Before (now classes) (now pairs) (now text) s c i × Lent (now classes) (c .point) × (kinds.isUncased (c .flags) ≡ true) ⌝ }
+    ensures { λ r. ⌜ Advanced (now (classes .entry)) (now (pairs .entry)) (now (text .entry)) i r ⌝ }
+{
+    let near = kin_of(c.point, hints, classes);
+    let next = run_end(text, i, near.low, near.high);
+    let suspicious = is_suspicious(pairs, s.last_range(), c.range);
+    let again = is_suspicious(pairs, c.range, c.range);
+    Fed {
+        state: s.uncased_run(c, (next - i) as u32, text[next - 1], suspicious, again),
+        next,
+    }
+}
+
+// The character at i, which is of class c, and those behind it that are fed with it.
+pub fn fed_run(
+    s: Detectors,
+    c: Class,
+    text: &[u32],
+    i: usize,
+    hints: &mut [usize; HINTS],
+    classes: &[u8],
+    pairs: &[u8],
+) -> Fed
+    requires { ⌜ Before (now classes) (now pairs) (now text) s c i ⌝ }
+    ensures { λ r. ⌜ Advanced (now (classes .entry)) (now (pairs .entry)) (now (text .entry)) i r ⌝ }
+{
+    if (LOWER_FIRST <= c.point) & (c.point <= LOWER_LAST) {
+        return fed_lower(s, text, i, pairs);
+    }
+    if c.point == SPACE {
+        return Fed {
+            state: s.space(),
+            next: i + 1,
+        };
+    }
+    let plain = !wrong_stop(c.point);
+    if (BUILTIN_END <= c.point) & plain & is_uncased(c.flags) {
+        return fed_uncased(s, c, text, i, hints, classes, pairs);
+    }
+    if (BUILTIN_END <= c.point) & plain & is_cased(c.flags) {
+        return fed_cased(s, c, text, i, hints, classes, pairs);
+    }
+    if plain & is_punctuation(c.flags) {
+        return Fed {
+            state: s.punctuation(c),
+            next: i + 1,
+        };
+    }
+    Fed {
+        state: fed(s, c, pairs),
+        next: i + 1,
+    }
+}
