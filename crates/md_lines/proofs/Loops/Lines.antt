@@ -1,7 +1,7 @@
 -- Laws of Lines for a walk from the front: the first line ends at the first 0A, or at the end of the bytes (`LineEnd`), and the other lines
 -- are those of the bytes behind it (`first-line`). There are no more lines than bytes (`lines-few`).
 -- Assumes nothing.
-use Prim.Native.Nat.{ℕ, suc, _+_, _-_, _≤_, _<_}
+use Prim.Native.Nat.{ℕ, zero, suc, _+_, _-_, _≤_, _<_}
 use mathlib.Core.Path.{_≡_, refl, sym, ap, _∙_}
 use mathlib.Core.Bool.{true, false}
 use mathlib.Core.List.{List, [], _∷_, _++_, append-assoc, append-nil}
@@ -10,11 +10,11 @@ use native.Mathlib.Omega.{arith}
 use lib.Dec.{eqb}
 use lib.ListN.{length, take, drop, getD, length-drop, drop-of-length-le}
 use lib.Seq.{drop-cons, take-suc, getD-drop}
-use borrow.Author.Tests.{eq-eqb, ne-eqb}
+use borrow.Author.Tests.{eq-eqb, ne-eqb, eqb-false, not-true}
 use Rattle.base.specs.Limits.{NEWLINE}
-use Rattle.base.proofs.Laws.Tests.{by-bool}
+use Rattle.base.proofs.Laws.Tests.{by-bool, and-l, and-r}
 use Rattle.md_lines.specs.Lines.{withByte, linesOf}
-use Rattle.md_lines.specs.Inner.Lines.{lineOf, restOf, LineEnd}
+use Rattle.md_lines.specs.Inner.Lines.{lineOf, restOf, Passing, LineEnd, noEnd, noEndOn}
 
 module _ (b : ℕ) (bs : List ℕ) (e : eqb b NEWLINE ≡ true) where
   pub ended-lines : linesOf (b ∷ bs) ≡ [] ∷ linesOf bs
@@ -42,7 +42,7 @@ module _ (b : ℕ) (bs : List ℕ) (e : eqb b NEWLINE ≡ false) where
   unfolding restOf
   more-rest = rw e
 
-lines-none : linesOf [] ≡ []
+pub lines-none : linesOf [] ≡ []
 unfolding linesOf
 lines-none = refl
 
@@ -90,13 +90,6 @@ module _ (bytes : List ℕ) (from end : ℕ) (h : from < length bytes) (l : Line
       let s : linesOf (drop from bytes) ≡ lineOf (drop from bytes) ∷ linesOf (restOf (drop from bytes)) =
       ap linesOf e ∙ lines-cons (getD bytes from 0) (drop (suc from) bytes) ∙ ap (λ (x : List ℕ). lineOf x ∷ linesOf (restOf x)) (sym e) in
       s ∙ rw (l .line, l .rest)
-
--- the bytes from `from` up to j hold no 0A
-pub record Passing (bytes : List ℕ) (from j : ℕ) : Type 0 where
-  pub begins : from ≤ j
-  pub inside : j ≤ length bytes
-  pub line : lineOf (drop from bytes) ≡ take (j - from) (drop from bytes) ++ lineOf (drop j bytes)
-  pub rest : restOf (drop from bytes) ≡ restOf (drop j bytes)
 
 module _ (bytes : List ℕ) (from : ℕ) where
   pub passing-start : from ≤ length bytes → Passing bytes from from
@@ -157,3 +150,19 @@ module _ (bytes : List ℕ) (from : ℕ) where
               ∙ append-nil (take (j - from) (drop from bytes));
           rest = p .rest ∙ ap restOf e ∙ rest-none ∙ sym (drop-of-length-le bytes {i = j + 1} m);
         }
+
+-- a byte that was told to be no 0A
+told : (bytes : List ℕ) (j : ℕ) → noEnd bytes j ≡ true → getD bytes j 0 ≡ NEWLINE → ⊥
+told bytes j t = eqb-false (getD bytes j 0) NEWLINE (not-true _ t)
+
+-- the bytes from j on that were tested are passed
+pub passing-on : (bytes : List ℕ) (from j k : ℕ) → Passing bytes from j → j + suc k ≤ length bytes → noEndOn bytes j k ≡ true
+    → Passing bytes from (j + suc k)
+unfolding noEndOn
+passing-on bytes from j zero p h t =
+    let e : j + 1 ≡ j + suc zero = omega arith in
+    rw e at (passing-more bytes from j p (omega arith) (told bytes j t))
+passing-on bytes from j (suc k) p h t =
+    let q = passing-on bytes from j k p (omega arith) (and-l (noEndOn bytes j k) (noEnd bytes (j + suc k)) t) in
+    let e : j + suc k + 1 ≡ j + suc (suc k) = omega arith in
+    rw e at (passing-more bytes from (j + suc k) q (omega arith) (told bytes (j + suc k) (and-r (noEndOn bytes j k) (noEnd bytes (j + suc k)) t)))

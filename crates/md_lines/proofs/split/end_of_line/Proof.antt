@@ -1,8 +1,9 @@
 -- The bytes passed hold no 0A. Assumes nothing.
 use Prim.Native.Nat.{_-_}
 use lib.ListN.{length}
-use Rattle.md_lines.proofs.Loops.Lines.{Passing, passing-start, passing-more, passing-hit, passing-end}
+use Rattle.md_lines.proofs.Loops.Lines.{passing-more, passing-hit, passing-end}
 use borrow.Author.Needs.{needs}
+use Rattle.md_lines.specs.Inner.Lines.{Passing}
 use Rattle.md_lines.proofs.split.end_of_line.Statement.{statement}
 use Rattle.md_lines.proofs.split.end_of_line.Tie as tie
 
@@ -13,7 +14,7 @@ abbrev μ-loop : tie.MeasureT-loop
 μ-loop bytes from j₀ j = length bytes - j
 
 loop-holds : tie.Need-loop-holds Inv-loop μ-loop
-loop-holds c = passing-start _ _ (c .pre)
+loop-holds c = c .past-line-eights .ensures
 
 returns : tie.Need-returns Inv-loop μ-loop
 returns c = passing-hit _ _ _ (c .before .before .before .loop .inv) (c .before .before .loop-test .taken) (c .if1 .taken)
@@ -30,6 +31,7 @@ end-of-line-spec =
     (tie.spec
     Inv-loop
     μ-loop
+    (λ c κs. search needs)
     loop-holds
     (λ c. search needs)
     returns
