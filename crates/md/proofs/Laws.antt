@@ -9,3 +9,4 @@ pub mod Plain
 pub mod Rest
 pub mod Runs
 pub mod Scan
+pub mod Whole

@@ -5,3 +5,4 @@ pub mod Ready
 pub mod Rest
 pub mod Runs
 pub mod Scan
+pub mod Whole

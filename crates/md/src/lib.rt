@@ -17,6 +17,7 @@ mod runs;
 pub mod scan;
 pub mod tables;
 mod text;
+mod whole;
 
 // f32 0.15, which is used where no threshold is given: stricter than the 0.2 of 01 (02 [5]).
 pub const DEFAULT_THRESHOLD: f32 = 0.15;

@@ -36,7 +36,7 @@ pub fn past_within(text: &[u32], from: usize, end: usize, low: u32, high: u32) -
 }
 
 // Whether the built-in table has all characters from `from` to `end`. With no early exit, so that the compiler takes several at a time.
-fn all_builtin(text: &[u32], from: usize, end: usize) -> bool
+pub fn all_builtin(text: &[u32], from: usize, end: usize) -> bool
     requires { ⌜ end ≤ length (now text) ⌝ }
     ensures { λ r. ⌜ Builtin r (now (text .entry)) from end ⌝ }
 {
@@ -117,7 +117,7 @@ fn unclassed_in(
 }
 
 // Where the block from i on ends.
-fn block_end(n: usize, i: usize) -> usize
+pub fn block_end(n: usize, i: usize) -> usize
     requires { ⌜ (i < n) × (n ≤ LONGEST-TEXT) ⌝ }
     ensures { λ r. ⌜ (i < r) × (r ≤ n) ⌝ }
 {

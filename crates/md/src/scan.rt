@@ -19,11 +19,11 @@ ghost use Rattle.md.specs.Inner.Ready.{Ready};
 use crate::Limit;
 use crate::Score;
 use crate::Scored;
-use crate::rest::unclassed_from;
 use crate::runs::fed_run;
 use crate::text::at_checkpoint;
 use crate::text::char_at;
 use crate::unscored;
+use crate::whole::unclassed_rest;
 use base::refusals::UNCLASSED;
 use class_builtin::Table;
 use classes::Class;
@@ -121,7 +121,7 @@ fn stopped_after(
     requires { ⌜ (goodTable (now classes) ≡ true) × (length (now text) ≤ LONGEST-TEXT) × (i < total (now text)) × detectors.Countable s ⌝ }
     ensures { λ r. ⌜ r ≡ going.stoppedAfter (now (classes .entry)) (now (text .entry)) s i ⌝ }
 {
-    let bad = unclassed_from(text, i + 1, hints, classes);
+    let bad = unclassed_rest(text, i + 1, hints, classes);
     if bad <= text.len() {
         return unscored(UNCLASSED, bad as u32);
     }

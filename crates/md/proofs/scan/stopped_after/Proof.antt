@@ -10,13 +10,13 @@ answered-requires : tie.Need-answered-requires
 answered-requires c κs = rw (c .counts .ensures) (search needs)
 
 returns : tie.Need-returns
-returns c = c .unscored .ensures ∙ stopped-missing _ _ _ _ _ (c .before .before .unclassed-from .ensures) (c .before .if1 .taken)
+returns c = c .unscored .ensures ∙ stopped-missing _ _ _ _ _ (c .before .before .unclassed-rest .ensures) (c .before .if1 .taken)
 
 returns-2 : tie.Need-returns-2
 returns-2 c =
     c .answered .ensures
     ∙ answered-state _ _ _ _ (c .before .counts .ensures)
-    ∙ stopped-scored _ _ _ _ _ (c .before .before .before .unclassed-from .ensures) (c .before .before .if1 .left)
+    ∙ stopped-scored _ _ _ _ _ (c .before .before .before .unclassed-rest .ensures) (c .before .before .if1 .left)
 
 pub stopped-after-spec : {M : Type 1} → statement M
 stopped-after-spec =
