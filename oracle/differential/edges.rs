@@ -12,6 +12,11 @@ const PERIODS: [(usize, usize); 3] = [(510, 32), (1023, 64), (usize::MAX, 128)];
 const MOST_RECORDS: u32 = 8_192;
 const FLAG_BITS: u32 = 32;
 
+// The first checkpoint of a long text; and rests behind it that are shorter, as long and longer than those of which the library first asks whether
+// the table holds every scalar value.
+const FIRST_STOP: usize = 128;
+const RESTS: [usize; 5] = [1_024, 1_535, 1_536, 1_537, 3_000];
+
 const EDGES: [u32; 20] = [
     0,
     1,
@@ -157,6 +162,42 @@ impl Run {
             text.iter_mut().filter(|p| (0xD800..0xE000).contains(*p)).for_each(|p| *p = BUILTIN_END - 1);
             self.scored(&text, Some(NEVER), classes, pairs);
         }
+    }
+
+    // Long texts that stop at their first checkpoint, over tables that hold every scalar value past the built-in table, all but one, or all but as many
+    // as there are records: a rest without these and with one of them; with a number that is no scalar value; and behind characters of the built-in
+    // table.
+    pub fn aimed_rests(&mut self, times: usize, pairs: &[u8]) {
+        for at in 0..times {
+            let mut records = tables::whole_records(&mut self.random);
+            let gaps = [0, 1, records.len()][at % 3];
+            let missing: Vec<u32> = (0..gaps).map(|_| tables::shorten(&mut self.random, &mut records)).collect();
+            let classes = tables::bytes(&records);
+            lend(&records, pairs);
+            for rest in RESTS {
+                let builtin = FIRST_STOP + [0, self.random.below(rest)][self.random.below(2)];
+                let text = self.scalar_values(FIRST_STOP + rest, builtin, &missing);
+                self.scored(&text, Some(0.0), &classes, pairs);
+                for wrong in missing.iter().copied().take(3).chain([0xD800, 0xDFFF, 0x110000, u32::MAX]) {
+                    let mut bad = text.clone();
+                    bad[FIRST_STOP + self.random.below(rest)] = wrong;
+                    self.scored(&bad, Some(0.0), &classes, pairs);
+                }
+            }
+            LENT.with_borrow_mut(|l| *l = oracle::open::Lent::default());
+        }
+    }
+
+    // n scalar values, those before `builtin` of the built-in table, with the edges of the others among them, and without those missing.
+    fn scalar_values(&mut self, n: usize, builtin: usize, missing: &[u32]) -> Vec<u32> {
+        let mut one = |at: usize| loop {
+            let any = [self.random.below(0x600), self.random.below(0x110000), *self.random.pick(&EDGES) as usize][self.random.below(3)] as u32;
+            let p = if at < builtin { any % BUILTIN_END } else { any };
+            if char::from_u32(p).is_some() && !missing.contains(&p) {
+                return p;
+            }
+        };
+        (0..n).map(&mut one).collect()
     }
 
     // Class tables of one and two records at the edges of each field, with every three flags; tables of 8,191 to 8,193 records.

@@ -565,6 +565,7 @@ impl Run {
         self.during("cut-offs and limits, lent tables", |run| run.aimed_lent(run.times(200, 4_000)));
         self.during("periods", |run| run.aimed_periods(run.times(30, 600), shelves, real));
         self.during("runs", |run| run.aimed_runs(run.times(30, 600), shelves, real));
+        self.during("rests of stopped texts", |run| run.aimed_rests(run.times(30, 600), pairs));
         self.during("two thresholds", |run| run.two_thresholds(alphabet, run.times(3_000, 60_000), real));
         self.during("the default threshold", |run| run.aimed_default(run.times(70, 700), real));
         self.during("texts in real languages", |run| run.in_languages(run.times(600, 10_000), &records, languages, real));

@@ -109,6 +109,29 @@ pub fn random_records(r: &mut Random, most: usize) -> Vec<Record> {
     all
 }
 
+// Up to 40 records that hold every scalar value past the built-in table.
+pub fn whole_records(r: &mut Random) -> Vec<Record> {
+    let mut ends: Vec<u32> = (0..r.below(39)).map(|_| random_point(r)).filter(|p| *p >= BUILTIN_END).collect();
+    ends.extend([0xD7FF, 0x10FFFF]);
+    ends.sort_unstable();
+    ends.dedup();
+    let starts = [BUILTIN_END].into_iter().chain(ends.iter().map(|end| if *end == 0xD7FF { 0xE000 } else { end + 1 }));
+    let one = |(first, last): (u32, &u32)| Record { first, last: *last, flags: random_flags(r), range: r.below(512) as u16, zero: 0, base: 0, lower: 0 };
+    starts.zip(&ends).map(one).collect()
+}
+
+// A record of more than one code point, shorter by its first or its last, which is told.
+pub fn shorten(r: &mut Random, all: &mut [Record]) -> u32 {
+    loop {
+        let x = &mut all[r.below(all.len())];
+        if x.first < x.last {
+            let missing = [x.first, x.last][r.below(2)];
+            if missing == x.first { x.first += 1 } else { x.last -= 1 }
+            return missing;
+        }
+    }
+}
+
 pub fn random_pairs(r: &mut Random) -> Vec<u8> {
     let density = r.below(9);
     (0..PAIR_BYTES).map(|_| (0..8).fold(0u8, |b, n| b | ((r.below(8) < density) as u8) << n)).collect()
