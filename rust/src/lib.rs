@@ -14,8 +14,9 @@
 //! # Ok::<(), drasumira::Refusal>(())
 //! ```
 //!
-//! Each call of [`score`] checks the class table whole, which for one line of 80 characters costs more than the scan itself. For many lines
-//! [`score_lines`] checks it once:
+//! Each call of [`score`] checks the class table whole, some 11 microseconds, which for one line of 80 characters is more than the scan itself
+//! costs; each character that is fed to a [`Running`] line by itself pays it too, and a chunk pays it once. For many lines [`score_lines`]
+//! checks it once:
 //!
 //! ```
 //! use drasumira::{Tables, score_lines};
