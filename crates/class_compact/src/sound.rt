@@ -21,8 +21,10 @@ const MARKS: usize = 32768;
 // How many numbers a half of a base or a lower-case letter has.
 const HALF: u32 = 65536;
 
-// What spreads the bases over the marks.
-const SPREAD: u32 = 31;
+// What spreads the bases over the marks, and the letters above U+FFFF: of tables/compact no two letters share a mark.
+const SPREAD: u32 = 127;
+
+const HIGH_SPREAD: u32 = 16381;
 
 // Whether the records use m letters, first in their order. With no early exit, since nearly every table is good.
 fn in_first_use(records: &[u8], m: usize) -> bool
@@ -46,7 +48,9 @@ fn letters_mark(letters: &[u8], k: usize) -> usize
     requires { ⌜ k < lettersIn (now letters) ⌝ }
     ensures { λ r. ⌜ Mark (now (letters .entry)) k r ⌝ }
 {
-    let spread = base_at(letters, k) % HALF * SPREAD + lower_at(letters, k) % HALF;
+    let base = base_at(letters, k) % HALF * SPREAD;
+    let lower = lower_at(letters, k);
+    let spread = base + (lower % HALF + lower / HALF * HIGH_SPREAD);
     spread as usize % MARKS
 }
 

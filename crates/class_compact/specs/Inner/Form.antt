@@ -1,6 +1,6 @@
 -- Words of inner contracts, beside Form: `Place`, `Mark`, `Sized`, `Filled`. No public promise rests on them.
 -- Assumes nothing.
-use Prim.Native.Nat.{ℕ, _+_, _*_, _%_, _≤_, _<_}
+use Prim.Native.Nat.{ℕ, _+_, _*_, _/_, _%_, _≤_, _<_}
 use mathlib.Core.Path.{_≡_}
 use mathlib.Core.Bool.{Bool, not, _||_}
 use mathlib.Core.List.{List}
@@ -21,7 +21,7 @@ MARKS = 32768
 
 -- a number that is the same for the same letters, and seldom for others
 unfoldable pub markAt : List ℕ → ℕ → ℕ
-markAt l k = (baseAt l k % 65536 * 31 + lowerAt l k % 65536) % MARKS
+markAt l k = (baseAt l k % 65536 * 127 + (lowerAt l k % 65536 + lowerAt l k / 65536 * 16381)) % MARKS
 
 pub record Mark (l : List ℕ) (k r : ℕ) : Type 0 where
   pub is : r ≡ markAt l k

@@ -12,4 +12,12 @@ returns c = record { is = rw (c .lower-at .ensures, c .before .base-at .ensures)
 pub letters-mark-spec : {M : Type 1} → statement M
 letters-mark-spec =
     tie.close
-    (tie.spec (λ c κs. search needs) (λ c. search needs) (λ c κs. search needs) (λ c. search needs) (λ c. search needs) returns)
+    (tie.spec
+    (λ c κs. search needs)
+    (λ c. search needs)
+    (λ c κs. search needs)
+    (λ c. search needs)
+    (λ c. search needs)
+    (λ c. search needs)
+    (λ c. search needs)
+    returns)
