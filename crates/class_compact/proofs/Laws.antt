@@ -4,6 +4,7 @@ pub mod Calls
 pub mod FirstUse
 pub mod Firsts
 pub mod Form
+pub mod Marked
 pub mod Numbering
 pub mod Own
 pub mod Packed

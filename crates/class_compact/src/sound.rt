@@ -4,27 +4,18 @@ ghost use mathlib.Core.Path.{_≡_};
 ghost use Prim.Native.Nat.{_≤_, _<_};
 ghost use lib.ListN.{length, getD};
 ghost use Rattle.class_compact.specs.Form.{lettersIn};
-ghost use Rattle.class_compact.specs.Inner.Form.{Mark};
+ghost use Rattle.class_compact.specs.Inner.Form.{Mark, markAt};
 ghost use Rattle.class_compact.specs.Inner.Sound as inner;
 ghost use Rattle.class_compact.specs.Inner.Marked.{Marked};
 use crate::COMPACT_RECORD;
 use crate::LETTERS_RECORD;
+use crate::form::MARKS;
 use crate::form::base_at;
 use crate::form::find_letters;
 use crate::form::lower_at;
+use crate::form::mark_for;
 use crate::form::place_of;
 use base::pick;
-
-// How many marks there are: some for each of the letters of a full table, so that few share one.
-const MARKS: usize = 32768;
-
-// How many numbers a half of a base or a lower-case letter has.
-const HALF: u32 = 65536;
-
-// What spreads the bases over the marks, and the letters above U+FFFF: of tables/compact no two letters share a mark.
-const SPREAD: u32 = 127;
-
-const HIGH_SPREAD: u32 = 16381;
 
 // Whether the records use m letters, first in their order. With no early exit, since nearly every table is good.
 fn in_first_use(records: &[u8], m: usize) -> bool
@@ -43,20 +34,16 @@ fn in_first_use(records: &[u8], m: usize) -> bool
     good & (seen as usize == m)
 }
 
-// A number that the same letters share, and others seldom.
 fn letters_mark(letters: &[u8], k: usize) -> usize
     requires { ⌜ k < lettersIn (now letters) ⌝ }
-    ensures { λ r. ⌜ Mark (now (letters .entry)) k r ⌝ }
+    ensures { λ r. ⌜ Mark (markAt (now (letters .entry)) k) r ⌝ }
 {
-    let base = base_at(letters, k) % HALF * SPREAD;
-    let lower = lower_at(letters, k);
-    let spread = base + (lower % HALF + lower / HALF * HIGH_SPREAD);
-    spread as usize % MARKS
+    mark_for(base_at(letters, k), lower_at(letters, k))
 }
 
 // Whether the letters k are not (0, 0) and no repeat. Those before them have their marks set, so that where theirs is not they are no repeat.
 fn is_own(letters: &[u8], k: usize, marks: &[bool; MARKS]) -> bool
-    requires { ⌜ (k < lettersIn (now letters)) × Marked (now letters) k (now marks) ⌝ }
+    requires { ⌜ (k < lettersIn (now letters)) × Marked (markAt (now letters)) k (now marks) ⌝ }
     ensures { λ r. ⌜ r ≡ inner.isOwn (now (letters .entry)) k ⌝ }
 {
     let base = base_at(letters, k);

@@ -22,7 +22,7 @@ use Rattle.class_records.specs.Records.{records, recordAt}
 use Rattle.class_compact.specs.Form.{LETTERS-RECORD, lettersIn, baseAt, lowerAt, bytesFrom, joined}
 use Rattle.class_compact.specs.Check.{lettersAre}
 use Rattle.class_compact.specs.Packed.{plain, alike, firstAlike, isNew, newLetters, lettersBefore, packedPlace}
-use Rattle.class_compact.specs.Inner.Gathered.{Placed}
+use Rattle.class_compact.specs.Inner.Gathered.{Placed, Unmet}
 use Rattle.class_compact.proofs.Laws.Firsts.{clash, first-least, first-hits, first-same}
 use Rattle.class_compact.proofs.Laws.Form.{bytes-length, bytes-at, bytes-are, le32-same}
 
@@ -87,6 +87,13 @@ module _ (t : List ℕ) where
     pub first-new : plain t i ≡ false → isNew t (firstAlike t i) ≡ true
     unfolding isNew
     first-new e = rw (plain-first, e) (eq-eqb _ _ first-own)
+
+    -- no record before has its letters: it is the first
+    pub first-alone : ((j : ℕ) → j < i → alike t i j ≡ false) → firstAlike t i ≡ i
+    first-alone e =
+        split (firstAlike t i) i
+        (λ a. clash alike-first (e (firstAlike t i) a))
+        (λ a. let z = alike-at in omega arith)
 
   pub new-own : (i : ℕ) → isNew t i ≡ true → firstAlike t i ≡ i
   unfolding isNew
@@ -343,3 +350,7 @@ module _ (t : List ℕ) where
         → found ≡ first (lettersAre used base lower) count → found + 1 ≡ packedPlace t i
     place-found found base lower p a b e =
         ap (λ (n : ℕ). n + 1) (e ∙ seen base lower ∙ rw (a, b) (found-at i (g .inside) p)) ∙ sym (place-some i p)
+
+    pub place-unmet : (met : Bool) → Unmet t i met → met ≡ false → plain t i ≡ false → count + 1 ≡ packedPlace t i
+    place-unmet met u e p =
+        ap (λ (n : ℕ). n + 1) (g .number ∙ ap before (sym (first-alone i (g .inside) (u .others e)))) ∙ sym (place-some i p)

@@ -5,8 +5,7 @@ use mathlib.Core.Path.{_≡_, refl, sym, ap, _∙_}
 use mathlib.Core.Bool.{Bool, true, false, not, _&&_, _||_}
 use mathlib.Core.List.{List}
 use native.Mathlib.Omega.{arith}
-use lib.ListN.{length, getD, set, replicate, length-set, length-replicate}
-use lib.Seq.{getD-set-same, getD-set-other}
+use lib.ListN.{getD, set, replicate}
 use lib.Dec.{eqb, ltb}
 use borrow.Author.Tests.{eqb-true, eqb-false, eq-eqb, ne-eqb, le-ltb, lt-ltb, ltb-true}
 use Rattle.base.specs.First.{first, each}
@@ -18,6 +17,7 @@ use Rattle.class_compact.specs.Inner.Form.{MARKS, markAt}
 use Rattle.class_compact.specs.Inner.Marked.{Marked}
 use Rattle.class_compact.specs.Inner.Sound.{isOwn, allOwn, Use, Told}
 use Rattle.class_compact.proofs.Laws.Firsts.{clash, or-no-l}
+use Rattle.class_compact.proofs.Laws.Marked.{marked-start, marked-more}
 
 module _ (l : List ℕ) (k base lower : ℕ) (b : base ≡ baseAt l k) (w : lower ≡ lowerAt l k) where
   pub own-none : (eqb base 0 && eqb lower 0) ≡ true → false ≡ isOwn l k
@@ -39,7 +39,7 @@ module _ (l : List ℕ) (k base lower : ℕ) (b : base ≡ baseAt l k) (w : lowe
         (λ a. rw (le-ltb found k a) (eq-eqb found k (omega arith))))
 
     -- no mark, no repeat
-    other : (marks : List Bool) → Marked l k marks → getD marks (markAt l k) false ≡ false
+    other : (marks : List Bool) → Marked (markAt l) k marks → getD marks (markAt l k) false ≡ false
         → (j : ℕ) → j < k → lettersAre l (baseAt l k) (lowerAt l k) j ≡ false
     unfolding lettersAre markAt
     other marks m z j i =
@@ -49,7 +49,7 @@ module _ (l : List ℕ) (k base lower : ℕ) (b : base ≡ baseAt l k) (w : lowe
         clash (m .set j i) (rw (x, y) z))
         (λ s. s)
 
-    pub own-unmarked : (marks : List Bool) (mark : ℕ) → Marked l k marks → mark ≡ markAt l k → getD marks mark false ≡ false → true ≡ isOwn l k
+    pub own-unmarked : (marks : List Bool) (mark : ℕ) → Marked (markAt l) k marks → mark ≡ markAt l k → getD marks mark false ≡ false → true ≡ isOwn l k
     unfolding isOwn repeated
     own-unmarked marks mark m e z =
         let q : first (lettersAre l (baseAt l k) (lowerAt l k)) k ≡ k = first-none _ _ (other marks m (rw e at z)) in
@@ -58,34 +58,22 @@ module _ (l : List ℕ) (k base lower : ℕ) (b : base ≡ baseAt l k) (w : lowe
 -- all of them
 pub record Owning (l : List ℕ) (marks : List Bool) (k : ℕ) : Type 0 where
   pub below : k ≤ lettersIn l
-  pub marked : Marked l k marks
+  pub marked : Marked (markAt l) k marks
   pub all : each (isOwn l) k ≡ true
 
 module _ (l : List ℕ) where
   pub owning-start : Owning l (replicate MARKS false) 0
   unfolding each
-  owning-start =
-      record { below = omega arith; marked = record { size = length-replicate MARKS false; set = λ j h. absurd (no j h) }; all = refl }
-    where
-      no : (j : ℕ) → j < 0 → ⊥
-      no j h = omega arith
+  owning-start = record { below = omega arith; marked = marked-start (markAt l); all = refl }
 
   module _ (marks : List Bool) (k : ℕ) (o : Owning l marks k) where
     pub owning-more : (mark : ℕ) → k < lettersIn l → isOwn l k ≡ true → mark ≡ markAt l k → mark < MARKS → Owning l (set marks mark true) (k + 1)
     owning-more mark h e m small =
         record {
           below = omega arith;
-          marked = record { size = length-set marks mark true ∙ o .marked .size; set = set-for };
+          marked = marked-more (markAt l) marks k mark (o .marked) m small;
           all = sym (each-more (isOwn l) k) ∙ and-yes (o .all) e;
         }
-      where
-        set-for : (j : ℕ) → j < k + 1 → getD (set marks mark true) (markAt l j) false ≡ true
-        set-for j i =
-            by-bool (eqb (markAt l j) mark)
-            (λ s. rw (eqb-true (markAt l j) mark s) (getD-set-same marks mark true false (omega (arith, o .marked .size, small))))
-            (λ s. getD-set-other marks mark (markAt l j) true false (eqb-false (markAt l j) mark s) ∙ split j k
-            (λ a. o .marked .set j a)
-            (λ a. let z : j ≡ k = omega arith in absurd (eqb-false (markAt l j) mark s (rw z (sym m)))))
 
     pub owning-end : lettersIn l ≤ k → true ≡ allOwn l
     unfolding allOwn

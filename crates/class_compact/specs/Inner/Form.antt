@@ -20,11 +20,15 @@ abbrev pub MARKS : ℕ
 MARKS = 32768
 
 -- a number that is the same for the same letters, and seldom for others
-unfoldable pub markAt : List ℕ → ℕ → ℕ
-markAt l k = (baseAt l k % 65536 * 127 + (lowerAt l k % 65536 + lowerAt l k / 65536 * 16381)) % MARKS
+unfoldable pub markOf : ℕ → ℕ → ℕ
+markOf base lower = (base % 65536 * 127 + (lower % 65536 + lower / 65536 * 16381)) % MARKS
 
-pub record Mark (l : List ℕ) (k r : ℕ) : Type 0 where
-  pub is : r ≡ markAt l k
+-- that of the letters k
+unfoldable pub markAt : List ℕ → ℕ → ℕ
+markAt l k = markOf (baseAt l k) (lowerAt l k)
+
+pub record Mark (mark r : ℕ) : Type 0 where
+  pub is : r ≡ mark
   pub small : r < MARKS
 
 -- the class list's length or number is not allowed
