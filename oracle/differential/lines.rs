@@ -4,7 +4,7 @@
 use crate::library::{self, BYTE, Guarded, HostRead, HostScore, Lent, SCORE_WORDS, WORD};
 use crate::tables::PAIR_BYTES;
 use crate::texts::{self, Alphabet};
-use crate::{DEFAULT_THRESHOLD, ROOMS, Run, causes, chars, expected_score, hex, oracle_score, tables};
+use crate::{DEFAULT_THRESHOLD, LINE_BYTES, ROOMS, Run, causes, chars, expected_score, hex, oracle_score, tables};
 
 const LONGEST_BURST: usize = 16_777_216;
 pub const NUMBERS: usize = SCORE_WORDS;
@@ -87,7 +87,12 @@ impl Run {
                 2 => *self.random.pick(&ROOMS),
                 _ => texts::length(&mut self.random),
             };
-            bytes.extend(self.bytes_of_text(alphabet, n));
+            let mut line = self.bytes_of_text(alphabet, n);
+            if self.random.below(6) == 0 {
+                line = self.bytes_of_text(alphabet, 520);
+                line.truncate(*self.random.pick(&LINE_BYTES));
+            }
+            bytes.extend(line);
             bytes.push(0x0A);
         }
         if self.random.below(2) == 0 {

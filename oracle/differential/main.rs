@@ -41,6 +41,9 @@ const PROGRESS_EVERY: u64 = 1_000_000;
 // Lengths beside those at which the library takes a larger room for the text of bytes.
 const ROOMS: [usize; 8] = [255, 256, 257, 258, 4095, 4096, 4097, 5000];
 
+// Bytes of a line beside those of the longest that the library reads in one pass; a line that is cut there may end within a sequence.
+const LINE_BYTES: [usize; 8] = [3, 8, 509, 510, 511, 512, 513, 514];
+
 // A surrogate, a number past the last code point, overlong forms, and a byte that leads nothing.
 const ILL_FORMED: [[u8; 4]; 7] = [
     [0xED, 0xA0, 0x80, 0x80],
