@@ -4,5 +4,6 @@ pub mod Export
 pub mod Host
 pub mod Lent
 pub mod Matches
+pub mod Stored
 pub mod Tokens
 pub mod Why
