@@ -39,10 +39,19 @@ pub record Types : Type 0 where
   pub fourth : Ty
   pub back : Sym
 
-module _ (S : Declared) (τ : Types) where
+module _ (S : Declared) (answer : Ty) (back : Sym) where
   abbrev pub returned : Ty
-  returned = tyStruct (τ .back) (tcons (layout (shape S)) (tcons (τ .answer) tnil))
+  returned = tyStruct back (tcons (layout (shape S)) (tcons answer tnil))
 
+  -- the value that came back is the pair of the state s and of the answer's machine value a, and each is of its type
+  pub record Back (L : LL.Laws S) (s : S .D) (a : Val) (Known : Type 0) (v : Val) : Type 0 where
+    pub fits : T (hasTy returned v) × WT v
+    pub is : v ≡ vstruct (vcons (LL.val S L s) (vcons a vnil))
+    pub state-is : Is (row S) s (LL.val S L s ∷ [])
+    pub answer-fits : T (hasTy answer a) × WT a
+    pub known : Known
+
+module _ (S : Declared) (τ : Types) where
   abbrev pub entry : (lifetimes : ℕ) (callee : Name) → Fn
   entry lifetimes callee = record {
     lifetimes = lifetimes;
@@ -50,21 +59,13 @@ module _ (S : Declared) (τ : Types) where
     params = 4;
     locals =
       local (τ .answer) valueLocal ∷ local (tyRef (named 0) mut (τ .behind)) valueLocal ∷ local (τ .second) valueLocal ∷ local (τ .third) valueLocal
-      ∷ local (τ .fourth) valueLocal ∷ local returned valueLocal ∷ local (layout (shape S)) valueLocal ∷ [];
+      ∷ local (τ .fourth) valueLocal ∷ local (returned S (τ .answer) (τ .back)) valueLocal ∷ local (layout (shape S)) valueLocal ∷ [];
     body =
       seq (assign (place 6 []) (rvOpd (copy (place 1 (deref (layout (shape S)) ∷ [])))))
       (seq (call callee (copy (place 6 []) ∷ copy (place 2 []) ∷ copy (place 3 []) ∷ copy (place 4 []) ∷ []) (place 5 []))
       (seq (assign (place 1 (deref (layout (shape S)) ∷ [])) (rvOpd (copy (place 5 (field 0 ∷ [])))))
       (seq (assign (place 0 []) (rvOpd (copy (place 5 (field 1 ∷ []))))) return)));
   }
-
-  -- the value that came back is the pair of the state s and of the answer's machine value a, and each is of its type
-  pub record Back (L : LL.Laws S) (s : S .D) (a : Val) (Known : Type 0) (v : Val) : Type 0 where
-    pub fits : T (hasTy returned v) × WT v
-    pub is : v ≡ vstruct (vcons (LL.val S L s) (vcons a vnil))
-    pub state : Is (row S) s (LL.val S L s ∷ [])
-    pub answer : T (hasTy (τ .answer) a) × WT a
-    pub known : Known
 
 module _ {M : Type 1} (𝓤 : URA M) (H : Heap 𝓤) (A : Atoms 𝓤) (W : Given 𝓤 H A) (C : Calls 𝓤 H) (Λ : Loops 𝓤 H) (fm : FmC 𝓤 H (W .laws) C)
     (S : Declared) (L : LL.Laws S) (plain : Plains (fields S)) (τ : Types) (lifetimes : ℕ) (callee : Name)
@@ -75,7 +76,7 @@ module _ {M : Type 1} (𝓤 : URA M) (H : Heap 𝓤) (A : Atoms 𝓤) (W : Given
 
   pub stored :
       (Is (row S) h (val h ∷ []) → ent 𝓤 (⋆ 𝓤 H A (Others ∷ ‵ Own ∷ [])) (C callee (val h ∷ v₂ ∷ v₃ ∷ v₄ ∷ []) Q))
-      → ((v : Val) → ent 𝓤 (Q v) (mean 𝓤 H A (later (given (Back S τ L s a Known v) Others))))
+      → ((v : Val) → ent 𝓤 (Q v) (mean 𝓤 H A (later (given (Back S (τ .answer) (τ .back) L s a Known v) Others))))
       → (Known → ent 𝓤 (⋆ 𝓤 H A (‵ (fobs γ (row S .coded .code s)) ∷ ‵ (fbor κ (Body (mem (row S)) b o γ)) ∷ ‵ (flft κ q) ∷ Others ∷ [])) (Post a))
       → ent 𝓤 (⋆ 𝓤 H A (‵ (fobs γ (row S .coded .code h)) ∷ ‵ (fbor κ (Body (mem (row S)) b o γ)) ∷ ‵ (flft κ q) ∷ Others ∷ ‵ Own ∷ []))
       (WpFn 𝓤 H C Λ (entry S τ lifetimes callee) (vptr b o ∷ v₂ ∷ v₃ ∷ v₄ ∷ []) Post)
@@ -96,17 +97,17 @@ module _ {M : Type 1} (𝓤 : URA M) (H : Heap 𝓤) (A : Atoms 𝓤) (W : Given
       calls-from ! fm (raw (C callee (val h ∷ v₂ ∷ v₃ ∷ v₄ ∷ []) Q)) (val h ∷ v₂ ∷ v₃ ∷ v₄ ∷ []) Q (id⊢ 𝓤 _)
       (and-then ! (load ! (from ! (stop !)) (look ! 5 refl)) (and-then ! (load ! (from ! (stop !)) (look ! 13 refl))
       (and-then ! (load ! (from ! (stop !)) (look ! 11 refl)) (and-then ! (load ! (from ! (stop !)) (look ! 9 refl)) (no-more !))))) (λ v.
-      use1 W (later (given (Back S τ L s a Known v) Others)) (came v) $ await ! tt $ learn ! (λ back. move ! (1 ∷ 2 ∷ 3 ∷ 4 ∷ []) $
+      use1 W (later (given (Back S (τ .answer) (τ .back) L s a Known v) Others)) (came v) $ await ! tt $ learn ! (λ back. move ! (1 ∷ 2 ∷ 3 ∷ 4 ∷ []) $
       -- [the state's cell; the open borrow; obs; auth; the other tokens; _6; …]: the result lands, and its machine value is written out
       land ! (from ! (stop !)) (init ! 7 refl (back .fits)) $
-      rewrite ! 7 (λ (u : Val). ‵ (fat fullShare (returned S τ) l₅ 0 u)) (back .is) refl $
+      rewrite ! 7 (λ (u : Val). ‵ (fat fullShare (returned S (τ .answer) (τ .back)) l₅ 0 u)) (back .is) refl $
       -- its two fields go to where the state lies and to the result
       assigns ! (of-opd ! (load ! (from ! (fld ! refl (stop !))) (look-in ! 7 (sub ! 0 refl (whole !))))) (from ! (hop ! (look ! 15 refl) (stop !)))
-      (store-raw ! 0 refl (LL.lawful S L 𝓤 H A W .typed s _ (back .state) .0)) $
+      (store-raw ! 0 refl (LL.lawful S L 𝓤 H A W .typed s _ (back .state-is) .0)) $
       assigns ! (of-opd ! (load ! (from ! (fld ! refl (stop !))) (look-in ! 7 (sub ! 1 refl (whole !))))) (from ! (stop !))
-      (init ! 17 refl (back .answer)) $
+      (init ! 17 refl (back .answer-fits)) $
       -- the borrow is closed at the new state
-      owned ! (row S) (Is (row S)) (LL.makes S plain 𝓤 H A) s _ (back .state) $ move ! (1 ∷ 0 ∷ []) $
+      owned ! (row S) (Is (row S)) (LL.makes S plain 𝓤 H A) s _ (back .state-is) $ move ! (1 ∷ 0 ∷ []) $
       closes ! tt (row S) s (val s ∷ []) b o $
       returns ! (look ! 16 refl) $ forget ! 4 refl $ forget ! 6 refl $ forget ! 8 refl $ forget ! 10 refl $ forget ! 12 refl $ forget ! 14 refl $ forget ! 16 refl $
       move ! (16 ∷ 17 ∷ []) $ free1 ! $ move ! (14 ∷ 15 ∷ []) $ free1 ! $ move ! (12 ∷ 13 ∷ []) $ free1 ! $ move ! (10 ∷ 11 ∷ []) $ free1 ! $
