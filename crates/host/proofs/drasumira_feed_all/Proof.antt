@@ -50,7 +50,7 @@ use Rattle.host.proofs.running.chunk_flat.Symbol as step-def
 use Rattle.host.proofs.running.chunk_flat.Symbol.{name as #step}
 use Rattle.host.proofs.running.chunk_flat.Met as step-thm
 use Rattle.host.proofs.Laws.Fed.{answer-val, Known, FedBack, fed-came}
-use Rattle.host.proofs.Laws.Stored.{Types, stored}
+use Rattle.host.proofs.Laws.Stored.{Types, handed, stored}
 use Rattle.host.proofs.drasumira_feed_all.Key.{name as #host·drasumira-feed-all}
 use Rattle.host.proofs.drasumira_feed_all as f
 use Rattle.host.proofs.drasumira_feed_all.Statement as stated
@@ -113,9 +113,7 @@ module _ {M : Type 1} (𝓤 : URA M) (H : Heap 𝓤) (A : Atoms 𝓤) (W : Given
   to = (((κ₁, (κ₂, (κ₃, tt))), (q₁, (q₂, (q₃, tt))), tt, (h, rest), (val h ∷ [], rest-at)), tt)
 
   asks : Is T.the-row h (val h ∷ []) → ent 𝓤 (⋆ 𝓤 H A (Others ∷ ‵ RestOwned ∷ [])) (Step 𝓤 H A at-mem run .pre to)
-  asks g =
-      qed W (Others ∷ ‵ RestOwned ∷ []) ∵ move ! (1 ∷ []) $ owned ! T.the-row (Is T.the-row) (LL.makes T.the-type T′.the-plain 𝓤 H A) h _ g $ fjoin ! $
-      move ! (1 ∷ 0 ∷ []) $ join ! $ nothing ! $ move ! (1 ∷ 0 ∷ []) $ frame ! $ done !
+  asks g = handed 𝓤 H A W T.the-type T′.the-laws T′.the-plain h Others RestOwned g
 
   said : (r : HostFed) → ent 𝓤 (ensured 𝓤 H A step.ended (step.clauses 𝓤 H A at-mem run) (κ₁, (κ₂, (κ₃, tt))) (h, rest) tt r) (fact 𝓤 (r ≡ found))
   said r = exE 𝓤 _ (λ ws. snd∗ 𝓤 (sem 𝓤 H A (lasts step.ended (κ₁, (κ₂, (κ₃, tt))) (h, rest) ws)) (fact 𝓤 (r ≡ found)))
@@ -134,8 +132,8 @@ module _ {M : Type 1} (𝓤 : URA M) (H : Heap 𝓤) (A : Atoms 𝓤) (W : Given
   came : (v : Val) → ent 𝓤 (Step 𝓤 H A at-mem run .post to v) (mean 𝓤 H A (later (given (FedBack found v) Others)))
   came = fed-came found 𝓤 H A W Others (ensured 𝓤 H A step.ended (step.clauses 𝓤 H A at-mem run) (κ₁, (κ₂, (κ₃, tt))) (h, rest) tt) said
 
-  leaves : Known found → ent 𝓤 (⋆ 𝓤 H A (‵ (fobs γ (T.the-row .coded .code (found .state))) ∷ ‵ (fbor κ₀ (Body (mem T.the-row) b o γ)) ∷ ‵ (flft κ₀ q₀) ∷ Others ∷ [])) (Post (answer-val found))
-  leaves is =
+  exits : Known found → ent 𝓤 (⋆ 𝓤 H A (‵ (fobs γ (T.the-row .coded .code (found .state))) ∷ ‵ (fbor κ₀ (Body (mem T.the-row) b o γ)) ∷ ‵ (flft κ₀ q₀) ∷ Others ∷ [])) (Post (answer-val found))
+  exits is =
       qed W (‵ (fobs γ (T.the-row .coded .code (found .state))) ∷ ‵ (fbor κ₀ (Body (mem T.the-row) b o γ)) ∷ ‵ (flft κ₀ q₀) ∷ Others ∷ []) ∵
       suffices ! _ (ends-at 𝓤 H A f.ended stayed (f.clauses 𝓤 H A at-mem run) W (((κ₀, (κ₁, (κ₂, (κ₃, tt)))), (q₀, (q₁, (q₂, (q₃, tt)))), bounds, x, at), tt)
       (answer-val found) (found .answer) (found .state, (tt, (tt, (tt, tt)))) (tt, (tt, (tt, (tt, tt))))) $
@@ -151,7 +149,7 @@ module _ {M : Type 1} (𝓤 : URA M) (H : Heap 𝓤) (A : Atoms 𝓤) (W : Given
         by ! (stored 𝓤 H A W C Λ fm T.the-type T′.the-laws T′.the-plain code-types 4 #step κ₀ q₀ b o γ h (found .state) (answer-val found)
         (sliceVal (text .ptr) (length (text .now))) (sliceVal (classes .ptr) (length (classes .now))) (sliceVal (pairs .ptr) (length (pairs .now)))
         (tt, (tt, (record { fits = text-room .0 }, tt))) (tt, (tt, (record { fits = classes-room .0 }, tt))) (tt, (tt, (record { fits = pairs-room .0 }, tt)))
-        Others RestOwned (Step 𝓤 H A at-mem run .post to) Post (Known found) (λ was. via 𝓤 (Step 𝓤 H A at-mem run .pre to) (asks was) (known to)) came leaves)
+        Others RestOwned (Step 𝓤 H A at-mem run .post to) Post (Known found) (λ was. via 𝓤 (Step 𝓤 H A at-mem run .pre to) (asks was) (known to)) came exits)
 
 module _ {M : Type 1} (𝓤 : URA M) (H : Heap 𝓤) (A : Atoms 𝓤) (W : Given 𝓤 H A) (mem : Memory → SProp 𝓤) (run : Routine → Fun 𝓤) (𝓣 : Tables 𝓤 H)
     (known : Triple 𝓤 (𝓣 .C #step) (Step 𝓤 H A mem run)) where

@@ -4,7 +4,7 @@ use Rattle.md_reason.proofs.growing.grew_at.Statement.{statement}
 use Rattle.md_reason.proofs.growing.grew_at.Tie as tie
 
 returns : tie.Need-returns
-returns c = cc
+returns c = rw (c .growth-of .ensures)
 
 pub grew-at-spec : {M : Type 1} → statement M
 grew-at-spec = tie.close (tie.spec (λ c κs. search needs) (λ c. search needs) (λ c. search needs) returns)
