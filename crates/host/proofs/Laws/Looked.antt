@@ -33,8 +33,8 @@ entry S behind answer callee = record {
   params = 1;
   locals = local answer valueLocal ∷ local (tyRef (named 0) imm behind) valueLocal ∷ local (layout (shape S)) valueLocal ∷ [];
   body =
-    seq (assign (place 2 []) (rvOpd (copy (place 1 (deref (layout (shape S)) ∷ [])))))
-    (seq (call callee (copy (place 2 []) ∷ []) (place 0 [])) return);
+      seq (assign (place 2 []) (rvOpd (copy (place 1 (deref (layout (shape S)) ∷ [])))))
+      (seq (call callee (copy (place 2 []) ∷ []) (place 0 [])) return);
 }
 
 module _ {M : Type 1} (𝓤 : URA M) (H : Heap 𝓤) (A : Atoms 𝓤) (W : Given 𝓤 H A) (C : Calls 𝓤 H) (Λ : Loops 𝓤 H) (fm : FmC 𝓤 H (W .laws) C)

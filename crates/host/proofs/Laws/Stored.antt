@@ -58,13 +58,13 @@ module _ (S : Declared) (τ : Types) where
     outlives = [];
     params = 4;
     locals =
-      local (τ .answer) valueLocal ∷ local (tyRef (named 0) mut (τ .behind)) valueLocal ∷ local (τ .second) valueLocal ∷ local (τ .third) valueLocal
-      ∷ local (τ .fourth) valueLocal ∷ local (returned S (τ .answer) (τ .back)) valueLocal ∷ local (layout (shape S)) valueLocal ∷ [];
+        local (τ .answer) valueLocal ∷ local (tyRef (named 0) mut (τ .behind)) valueLocal ∷ local (τ .second) valueLocal ∷ local (τ .third) valueLocal
+        ∷ local (τ .fourth) valueLocal ∷ local (returned S (τ .answer) (τ .back)) valueLocal ∷ local (layout (shape S)) valueLocal ∷ [];
     body =
-      seq (assign (place 6 []) (rvOpd (copy (place 1 (deref (layout (shape S)) ∷ [])))))
-      (seq (call callee (copy (place 6 []) ∷ copy (place 2 []) ∷ copy (place 3 []) ∷ copy (place 4 []) ∷ []) (place 5 []))
-      (seq (assign (place 1 (deref (layout (shape S)) ∷ [])) (rvOpd (copy (place 5 (field 0 ∷ [])))))
-      (seq (assign (place 0 []) (rvOpd (copy (place 5 (field 1 ∷ []))))) return)));
+        seq (assign (place 6 []) (rvOpd (copy (place 1 (deref (layout (shape S)) ∷ [])))))
+        (seq (call callee (copy (place 6 []) ∷ copy (place 2 []) ∷ copy (place 3 []) ∷ copy (place 4 []) ∷ []) (place 5 []))
+        (seq (assign (place 1 (deref (layout (shape S)) ∷ [])) (rvOpd (copy (place 5 (field 0 ∷ [])))))
+        (seq (assign (place 0 []) (rvOpd (copy (place 5 (field 1 ∷ []))))) return)));
   }
 
 module _ {M : Type 1} (𝓤 : URA M) (H : Heap 𝓤) (A : Atoms 𝓤) (W : Given 𝓤 H A) (S : Declared) (L : LL.Laws S) (plain : Plains (fields S)) (h : S .D) (Others : Item 𝓤) (Own : Fml) where
