@@ -7,7 +7,8 @@ use Rattle.host.proofs.compact.drasumira_pack.Tie as tie
 
 returns : tie.Need-returns
 returns c =
-    (c .flat-packed .ensures ∙ ap hostPacked (c .before .before .before .before .before .pack .ensures .0), c .before .before .before .before .before .pack .ensures .1)
+    let packing = c .before .before .before .before .before in
+    (c .flat-packed .ensures ∙ ap hostPacked (packing .pack .ensures .0), packing .pack .ensures .1)
 
 pub drasumira-pack-spec : {M : Type 1} → statement M
 drasumira-pack-spec =
