@@ -16,7 +16,7 @@ use ghost.Atoms.{Atoms, sem}
 use contract.Lifetimes.{AllOutlive}
 use contract.Monad.{Fun, fact}
 use contract.Running.{givenOf, tables, tablesOf}
-use types.Kit.{Given, Item, ‵, raw, _⊛_, given, later, mean, ⋆, _$_, _∵_, !, qed, by, move, drop}
+use types.Kit.{Given, Item, ‵, _⊛_, given, later, mean, ⋆, _$_, _∵_, !, qed, by, move, drop}
 use types.Kit.{split, join, fsplit, fsplit3, fjoin, fjoin3, feqI, suffices, frame, done}
 use types.SemTy.{Body}
 use sound.WpLaws.{FmC, fmOf, WpFn-mono}
