@@ -6,7 +6,7 @@ ghost use Prim.Native.Nat.{_*_, _≤_};
 ghost use lib.ListN.{length};
 ghost use Rattle.base.specs.Limits.{CLASS-RECORD, PAIR-BYTES};
 ghost use Rattle.class_records.specs.Records.{goodTable};
-ghost use Rattle.replay_classes.specs.Inner.Sizes.{MOST-WORDS};
+ghost use Rattle.replay_classes.specs.Inner.Sizes.{CASE-BYTES, MADE-BYTES, MOST-WORDS};
 use base::Counted;
 use base::limits::BUILTIN_END;
 use base::limits::CLASS_RECORD;
@@ -224,9 +224,22 @@ fn same_case(buf: &[u8], made: &mut [u8]) -> bool
     false
 }
 
+// Room for a case, and for a table that is made. The contracts give only the lengths: the prover need not look at the zeros.
+fn case_room() -> [u8; CASE_BYTES]
+    ensures { λ r. ⌜ CASE-BYTES ≡ length r ⌝ }
+{
+    [0; CASE_BYTES]
+}
+
+fn made_room() -> [u8; MADE_BYTES]
+    ensures { λ r. ⌜ MADE-BYTES ≡ length r ⌝ }
+{
+    [0; MADE_BYTES]
+}
+
 fn main() {
-    let mut buf = [0u8; CASE_BYTES];
-    let mut made = [0u8; MADE_BYTES];
+    let mut buf = case_room();
+    let mut made = made_room();
     let mut t = first_case(&mut buf);
     while t.size > 0 {
         let same = same_case(&buf[..t.size], &mut made);

@@ -1,10 +1,13 @@
 -- The flat form of the one call's answer. Assumes nothing.
 use borrow.Author.Needs.{needs}
+use mathlib.Core.Path.{ap, _∙_}
+use Rattle.host.specs.Matches.{hostMerged}
 use Rattle.host.proofs.drasumira_merge.Statement.{statement}
 use Rattle.host.proofs.drasumira_merge.Tie as tie
 
 returns : tie.Need-returns
-returns c = (cc, cc)
+returns c =
+    (c .flat-merged .ensures ∙ ap hostMerged (c .before .before .before .merge .ensures .0), c .before .before .before .merge .ensures .1)
 
 pub drasumira-merge-spec : {M : Type 1} → statement M
 drasumira-merge-spec =

@@ -1,10 +1,13 @@
 -- The flat form of the one call's answer. Assumes nothing.
 use borrow.Author.Needs.{needs}
+use mathlib.Core.Path.{ap, _∙_}
+use Rattle.host.specs.Host.{hostRing}
 use Rattle.host.proofs.drasumira_ring_put.Statement.{statement}
 use Rattle.host.proofs.drasumira_ring_put.Tie as tie
 
 returns : tie.Need-returns
-returns c = (cc, cc)
+returns c =
+    (c .flat-ringed .ensures ∙ ap hostRing (c .before .before .before .put-record .ensures .0), c .before .before .before .put-record .ensures .1)
 
 pub drasumira-ring-put-spec : {M : Type 1} → statement M
 drasumira-ring-put-spec =

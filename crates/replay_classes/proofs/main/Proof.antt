@@ -1,7 +1,6 @@
 -- The loop of every replay (`Replaying`). What is lent beside the buffer keeps its length. Assumes nothing.
-use Prim.Native.Nat.{ℕ}
-use mathlib.Core.Path.{_≡_, _∙_}
-use lib.ListN.{length, length-replicate}
+use mathlib.Core.Path.{_≡_, sym, _∙_}
+use lib.ListN.{length}
 use borrow.Author.Needs.{needs}
 use Rattle.replay.specs.Inner.Tally.{turns}
 use Rattle.replay.proofs.Loops.Replaying.{Replaying, replaying-case}
@@ -18,8 +17,8 @@ abbrev μ-loop : tie.MeasureT-loop
 loop-holds : tie.Need-loop-holds Inv-loop μ-loop
 loop-holds c =
     let started = c .before .first-case .ensures in (
-      record { size = started .fits .same ∙ length-replicate {A = ℕ} CASE-BYTES 0; sound = started .sound; within = started .fits .within },
-      length-replicate {A = ℕ} MADE-BYTES 0,
+      record { size = started .fits .same ∙ sym (c .before .before .before .before .case-room .ensures); sound = started .sound; within = started .fits .within },
+      sym (c .before .before .before .made-room .ensures),
     )
 
 slice-aggregate-same-case : tie.Need-slice-aggregate-same-case Inv-loop μ-loop
@@ -31,6 +30,8 @@ main-spec =
     (tie.spec
     Inv-loop
     μ-loop
+    (λ c κs. search needs)
+    (λ c κs. search needs)
     (λ c. search needs)
     (λ c κs. search needs)
     loop-holds

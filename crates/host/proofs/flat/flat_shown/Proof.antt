@@ -6,7 +6,7 @@ use Rattle.host.proofs.flat.flat_shown.Tie as tie
 
 returns : tie.Need-returns
 unfolding hostShown
-returns c = cc
+returns c = rw (c .one .ensures .is)
 
 pub flat-shown-spec : {M : Type 1} → statement M
 flat-shown-spec = tie.close (tie.spec (λ c κs. search needs) returns)

@@ -6,7 +6,7 @@ use Rattle.host.proofs.running.flat_fed.Tie as tie
 
 returns : tie.Need-returns
 unfolding hostFed
-returns c = cc
+returns c = rw (c .flat-counted .ensures)
 
 pub flat-fed-spec : {M : Type 1} → statement M
 flat-fed-spec = tie.close (tie.spec (λ c κs. search needs) returns)
