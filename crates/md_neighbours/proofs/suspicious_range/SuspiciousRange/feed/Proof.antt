@@ -14,7 +14,7 @@ unfolding feed forgotten
 returns-2 c =
     let test = c .before in
     let past = test .before .before in
-    simp (sym (past .before .is-set .ensures) ∙ past .if1 .left, sym (test .before .forgets .ensures) ∙ test .if2 .taken)
+    simp (sym (past .before .is-set .ensures) ∙ past .if1 .left, sym (test .before .forgets .ensures) ∙ test .if2 .taken) (cc)
 
 returns-3 : tie.Need-returns-3
 unfolding feed followed
