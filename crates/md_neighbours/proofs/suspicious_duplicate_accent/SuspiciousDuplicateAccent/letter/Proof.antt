@@ -6,9 +6,7 @@ use Rattle.md_neighbours.proofs.suspicious_duplicate_accent.SuspiciousD
 
 returns : tie.Need-returns
 unfolding letter
-returns c =
-    let at-both2 = c .before .before .before .before .before in
-    simp (c .one2 .ensures .is, c .before .before .one .ensures .is, at-both2 .both2 .ensures, at-both2 .before .both .ensures)
+returns c = cc
 
 pub letter-spec : {M : Type 1} → statement M
 letter-spec =
