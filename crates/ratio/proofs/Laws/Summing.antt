@@ -6,7 +6,7 @@ use Prim.Native.Nat.{ℕ, suc, _+_, _*_, _^_, _≤_, _<_}
 use mathlib.Core.Path.{_≡_, refl, sym, _∙_, subst}
 use mathlib.Core.Bool.{false}
 use mathlib.Core.List.{List, [], _∷_}
-use native.Mathlib.Nat.{lt-of-le-of-lt, mul-le-mul-right, mul-le-mul-left, le-of-mul-le-mul-right, mul-pos, add-zero, add-suc, suc-add, add-mul, add-assoc, mul-assoc, mul-comm, mul-left-comm}
+use native.Mathlib.Nat.{lt-of-le-of-lt, mul-le-mul-right, mul-le-mul-left, le-of-mul-le-mul-right, mul-pos, add-zero, add-suc, suc-add, add-mul, mul-assoc, mul-comm, mul-left-comm}
 use native.Mathlib.Omega.{arith}
 use lib.Dec.{lit<, lit≤}
 use lib.ListN.{length, drop}
@@ -41,7 +41,7 @@ rounds-first : (l r p q : ℕ) → p ≤ MOST-NUM → 0 < q → Once (r * q) (p 
 rounds-first l r p q P Q o = (Q, omega (arith, mul-le-mul-left MOST-NUM Q), apart-once (r * q) (p * l) o)
 
 module _ (l k w N D r p q w' : ℕ) (I : 1 ≤ k) (K : k < DETECTORS) (P : p ≤ MOST-NUM) (Q : 0 < q) (o : Once (r * q) (p * l)) (s : Once w' (w + r)) (h : Rounds l k w N D) where
-  more : N * q + p * D ≤ suc k * (MOST-NUM * (D * q))
+  more : N * q + D * p ≤ suc k * (MOST-NUM * (D * q))
   more = omega (arith, mul-le-mul-right q (h .1), mul-le-mul-right D P, mul-le-mul-left D Q)
 
   both : Apart k (w * D * q + r * q * D) (N * l * q + p * l * D)
@@ -49,17 +49,17 @@ module _ (l k w N D r p q w' : ℕ) (I : 1 ≤ k) (K : k < DETECTORS) (P : p ≤
       apart-add k (w * D * q) (N * l * q) (r * q * D) (p * l * D) (apart-scale k (w * D) (N * l) q (h .2))
       (apart-scale k (r * q) (p * l) D (apart-more 1 k (r * q) (p * l) I (apart-once (r * q) (p * l) o)))
 
-  regroup : Apart k (w * D * q + r * q * D) (N * l * q + p * l * D) → Apart k ((w + r) * (D * q)) ((N * q + p * D) * l)
+  regroup : Apart k (w * D * q + r * q * D) (N * l * q + p * l * D) → Apart k ((w + r) * (D * q)) ((N * q + D * p) * l)
   regroup a =
       let x : w * D * q + r * q * D ≡ (w + r) * (D * q) = simp (add-mul, mul-assoc, mul-comm, mul-left-comm) in
-      let y : N * l * q + p * l * D ≡ (N * q + p * D) * l = simp (add-mul, mul-assoc, mul-comm, mul-left-comm) in
-      subst (λ (v : ℕ). Apart k v ((N * q + p * D) * l)) x (subst (λ (e : ℕ). Apart k (w * D * q + r * q * D) e) y a)
+      let y : N * l * q + p * l * D ≡ (N * q + D * p) * l = simp (add-mul, mul-assoc, mul-comm, mul-left-comm) in
+      subst (λ (v : ℕ). Apart k v ((N * q + D * p) * l)) x (subst (λ (e : ℕ). Apart k (w * D * q + r * q * D) e) y a)
 
-  rounds-next : Rounds l (suc k) w' (N * q + p * D) (D * q)
+  rounds-next : Rounds l (suc k) w' (N * q + D * p) (D * q)
   rounds-next = (
     mul-pos (h .0) Q,
     more,
-    apart-round k ((w + r) * (D * q)) ((N * q + p * D) * l) (w' * (D * q)) K (regroup both) (once-scale w' (w + r) (D * q) s),
+    apart-round k ((w + r) * (D * q)) ((N * q + D * p) * l) (w' * (D * q)) K (regroup both) (once-scale w' (w + r) (D * q) s),
   )
 
 -- ---- floats. s has no minus sign, and is the fraction e after k roundings.
@@ -71,7 +71,7 @@ record At (k : ℕ) (s : Float) (e : Fraction) : Type 0 where
 infixl 60 _plus_
 -- the exact sum of two fractions
 abbrev _plus_ : Fraction → Fraction → Fraction
-e plus f = record { num = e .num * f .den + f .num * e .den; den = e .den * f .den }
+e plus f = record { num = e .num * f .den + e .den * f .num; den = e .den * f .den }
 
 at-first : {f : Fraction} → Proper f → At 1 (rounded f) f
 at-first {f} c =
@@ -123,14 +123,14 @@ at-eight : (f : Fractions) → EachProper f → At DETECTORS (sum (ratios f)) (t
 unfolding sum ratios
 at-eight f c = at-list 1 (rounded (f .symbols)) (f .symbols) (rest f) (lit≤ tt) (lit≤ tt) (at-first (c .0)) (c .1)
 
--- the exact sum is the one that Demand writes out
+-- the exact sum is the one that Demand writes out: its factors stand in the same order, so that only the sums are multiplied out
 total-den : (f : Fractions) → total f .den ≡ denominators f
 unfolding denominators
 total-den f = refl
 
 total-num : (f : Fractions) → total f .num ≡ numerators f
 unfolding numerators
-total-num f = simp (add-mul, add-assoc, mul-assoc, mul-comm, mul-left-comm)
+total-num f = simp add-mul
 
 pub record Sum (s : Float) (f : Fractions) : Type 0 where
   pub size : ℕ

@@ -6,7 +6,7 @@ use Rattle.md.proofs.scan.fed.Tie as tie
 
 returns : tie.Need-returns
 unfolding fed
-returns c = cc
+returns c = simp (c .feed .ensures, c .before .is-suspicious .ensures, c .before .before .last-range .ensures)
 
 pub fed-spec : {M : Type 1} → statement M
 fed-spec = tie.close (tie.spec (λ c κs. search needs) (λ c κs. search needs) (λ c κs. search needs) returns)

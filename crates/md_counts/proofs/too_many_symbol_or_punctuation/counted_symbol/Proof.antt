@@ -6,7 +6,9 @@ use Rattle.md_counts.proofs.too_many_symbol_or_punctuation.counted_symb
 
 returns : tie.Need-returns
 unfolding countedSymbol
-returns c = cc
+returns c =
+    let at-is-set = c .before .before .before in
+    simp (c .is-set4 .ensures, c .before .is-set3 .ensures, c .before .before .is-set2 .ensures, at-is-set .is-set .ensures)
 
 pub counted-symbol-spec : {M : Type 1} → statement M
 counted-symbol-spec =

@@ -6,7 +6,7 @@ use Rattle.md_counts.proofs.too_many_symbol_or_punctuation.marked.Tie a
 
 returns : tie.Need-returns
 unfolding marked
-returns c = cc
+returns c = simp (c .is-set2 .ensures, c .before .is-set .ensures)
 
 pub marked-spec : {M : Type 1} → statement M
 marked-spec = tie.close (tie.spec (λ c κs. search needs) (λ c κs. search needs) returns)

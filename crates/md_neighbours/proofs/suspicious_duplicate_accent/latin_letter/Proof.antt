@@ -6,7 +6,7 @@ use Rattle.md_neighbours.proofs.suspicious_duplicate_accent.latin_lette
 
 returns : tie.Need-returns
 unfolding latinLetter
-returns c = cc
+returns c = simp (c .is-set2 .ensures, c .before .is-set .ensures)
 
 pub latin-letter-spec : {M : Type 1} → statement M
 latin-letter-spec = tie.close (tie.spec (λ c κs. search needs) (λ c κs. search needs) returns)

@@ -22,7 +22,7 @@ loop-again c =
 
 returns : tie.Need-returns Inv-loop μ-loop
 unfolding counts
-returns c = rw (← unprintable-end _ (c .before .before .loop .inv) (c .before .loop-test .left)) cc
+returns c = rw (← unprintable-end _ (c .before .before .loop .inv) (c .before .loop-test .left)) (c .counts-of .ensures)
 
 pub count-unprintable-spec : {M : Type 1} → statement M
 count-unprintable-spec =

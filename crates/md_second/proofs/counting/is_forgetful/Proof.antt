@@ -6,7 +6,7 @@ use Rattle.md_second.proofs.counting.is_forgetful.Tie as tie
 
 returns : tie.Need-returns
 unfolding forgets
-returns c = cc
+returns c = simp (c .is-set3 .ensures, c .before .is-set2 .ensures, c .before .before .is-set .ensures)
 
 pub is-forgetful-spec : {M : Type 1} → statement M
 is-forgetful-spec =

@@ -6,7 +6,7 @@ use Rattle.md_second.proofs.counting.is_mark.Tie as tie
 
 returns : tie.Need-returns
 unfolding isMark
-returns c = cc
+returns c = simp (c .is-set2 .ensures, c .before .is-set .ensures)
 
 pub is-mark-spec : {M : Type 1} → statement M
 is-mark-spec =

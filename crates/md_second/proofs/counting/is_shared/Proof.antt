@@ -4,7 +4,7 @@ use Rattle.md_second.proofs.counting.is_shared.Statement.{statement}
 use Rattle.md_second.proofs.counting.is_shared.Tie as tie
 
 returns : tie.Need-returns
-returns c = cc
+returns c = simp (c .is-set2 .ensures, c .before .is-set .ensures)
 
 pub is-shared-spec : {M : Type 1} → statement M
 is-shared-spec =

@@ -6,7 +6,9 @@ use Rattle.md_second.proofs.readers.case_parted.Tie as tie
 
 returns : tie.Need-returns
 unfolding separator counted
-returns c = cc
+returns c =
+    let at-is-set = c .before .before .before in
+    simp (c .before .pick .ensures .is, at-is-set .is-set .ensures)
 
 pub case-parted-spec : {M : Type 1} → statement M
 case-parted-spec =

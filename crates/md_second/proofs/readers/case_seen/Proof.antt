@@ -6,7 +6,10 @@ use Rattle.md_second.proofs.readers.case_seen.Tie as tie
 
 returns : tie.Need-returns
 unfolding letter
-returns c = cc
+returns c =
+    let at-pick = c .before .before .before .before in
+    let at-is-change = at-pick .before .before .before in
+    simp (c .before .before .is-set .ensures, at-pick .pick .ensures .is, at-is-change .is-change .ensures)
 
 pub case-seen-spec : {M : Type 1} → statement M
 case-seen-spec =

@@ -6,7 +6,7 @@ use Rattle.md_second.proofs.readers.count_words.Tie as tie
 
 returns : tie.Need-returns
 unfolding counts
-returns c = cc
+returns c = c .counts-of .ensures
 
 pub count-words-spec : {M : Type 1} → statement M
 count-words-spec =

@@ -6,7 +6,7 @@ use Rattle.md_second.proofs.readers.ends_high.Tie as tie
 
 returns : tie.Need-returns
 unfolding capital
-returns c = cc
+returns c = simp (c .is-set2 .ensures, c .before .is-set .ensures)
 
 pub ends-high-spec : {M : Type 1} → statement M
 ends-high-spec =

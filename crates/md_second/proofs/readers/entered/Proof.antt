@@ -6,7 +6,22 @@ use Rattle.md_second.proofs.readers.entered.Tie as tie
 
 returns : tie.Need-returns
 unfolding entered oddIn
-returns c = cc
+returns c =
+    let at-pick = c .before .before .before in
+    let at-is-set3 = at-pick .before .before .before in
+    let at-is-set2 = at-is-set3 .before .before .before in
+    let at-is-odd-symbol = at-is-set2 .before .before .before in
+    simp (
+      c .before .before .is-foreign .ensures,
+      at-pick .pick .ensures .is,
+      at-pick .before .before .one3 .ensures .is,
+      at-is-set3 .is-set3 .ensures,
+      at-is-set3 .before .before .one2 .ensures .is,
+      at-is-set2 .is-set2 .ensures,
+      at-is-set2 .before .before .one .ensures .is,
+      at-is-odd-symbol .is-odd-symbol .ensures,
+      at-is-odd-symbol .before .before .is-set .ensures,
+    )
 
 pub entered-spec : {M : Type 1} → statement M
 entered-spec =

@@ -7,7 +7,9 @@ use Rattle.md_second.proofs.readers.is_gap.Tie as tie
 
 returns : tie.Need-returns
 unfolding isGap closes
-returns c = cc
+returns c =
+    let at-is-set = c .before .before .before in
+    simp (c .is-set4 .ensures, c .before .is-set3 .ensures, c .before .before .is-set2 .ensures, at-is-set .is-set .ensures)
 
 pub is-gap-spec : {M : Type 1} → statement M
 is-gap-spec =

@@ -6,7 +6,7 @@ use Rattle.md_second.proofs.readers.is_odd_symbol.Tie as tie
 
 returns : tie.Need-returns
 unfolding counted
-returns c = cc
+returns c = simp (c .is-set3 .ensures, c .before .is-set2 .ensures, c .before .before .is-set .ensures)
 
 pub is-odd-symbol-spec : {M : Type 1} → statement M
 is-odd-symbol-spec =

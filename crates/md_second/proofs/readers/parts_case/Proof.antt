@@ -6,7 +6,7 @@ use Rattle.md_second.proofs.readers.parts_case.Tie as tie
 
 returns : tie.Need-returns
 unfolding separates
-returns c = cc
+returns c = simp (c .before .is-set2 .ensures, c .before .before .is-set .ensures)
 
 pub parts-case-spec : {M : Type 1} → statement M
 parts-case-spec =

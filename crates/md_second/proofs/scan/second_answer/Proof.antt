@@ -6,7 +6,7 @@ use Rattle.md_second.proofs.scan.second_answer.Tie as tie
 
 returns : tie.Need-returns
 unfolding answered
-returns c = cc
+returns c = simp (c .eight-shown .ensures, c .before .sum .ensures, c .before .before .ratios .ensures)
 
 pub second-answer-spec : {M : Type 1} → statement M
 second-answer-spec =

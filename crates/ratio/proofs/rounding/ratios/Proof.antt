@@ -6,7 +6,18 @@ use Rattle.ratio.proofs.rounding.ratios.Tie as tie
 
 returns : tie.Need-returns
 unfolding ratios fractionsOf
-returns c = cc
+returns c =
+    let at-ranges = c .before .before .before .before in
+    λ i. record {
+      symbols = at-ranges .before .before .before .ratio-of .ensures i;
+      accents = at-ranges .before .before .ratio-of2 .ensures i;
+      unprintable = at-ranges .before .ratio-of3 .ensures i;
+      ranges = at-ranges .ratio-of4 .ensures i;
+      doubled = c .before .before .before .ratio-of5 .ensures i;
+      words = c .before .before .ratio-of6 .ensures i;
+      stops = c .before .ratio-of7 .ensures i;
+      archaic = c .ratio-of8 .ensures i;
+    }
 
 pub ratios-spec : {M : Type 1} → statement M
 ratios-spec =

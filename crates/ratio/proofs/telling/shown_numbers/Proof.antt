@@ -6,7 +6,18 @@ use Rattle.ratio.proofs.telling.shown_numbers.Tie as tie
 
 returns : tie.Need-returns
 unfolding shownNumbers numbersOf
-returns c = cc
+returns c =
+    let at-ranges = c .before .before .before .before in
+    simp (
+      c .one8 .ensures .is,
+      c .before .one7 .ensures .is,
+      c .before .before .one6 .ensures .is,
+      c .before .before .before .one5 .ensures .is,
+      at-ranges .one4 .ensures .is,
+      at-ranges .before .one3 .ensures .is,
+      at-ranges .before .before .one2 .ensures .is,
+      at-ranges .before .before .before .one .ensures .is,
+    )
 
 pub shown-numbers-spec : {M : Type 1} → statement M
 shown-numbers-spec =

@@ -6,7 +6,7 @@ use Rattle.md_counts.proofs.cjk_invalid_stop.CjkInvalidStop.counts.Tie 
 
 returns : tie.Need-returns
 unfolding counts
-returns c = cc
+returns c = c .counts-of .ensures
 
 pub counts-spec : {M : Type 1} → statement M
 counts-spec = tie.close (tie.spec (λ c κs. search needs) returns)

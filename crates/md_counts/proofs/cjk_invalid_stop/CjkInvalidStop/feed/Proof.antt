@@ -6,7 +6,9 @@ use Rattle.md_counts.proofs.cjk_invalid_stop.CjkInvalidStop.feed.Tie as
 
 returns : tie.Need-returns
 unfolding feed
-returns c = cc
+returns c =
+    let at-one = c .before .before .before .before in
+    simp (c .before .one2 .ensures .is, c .before .before .is-set .ensures, at-one .one .ensures .is, at-one .before .wrong-stop .ensures)
 
 pub feed-spec : {M : Type 1} → statement M
 feed-spec =

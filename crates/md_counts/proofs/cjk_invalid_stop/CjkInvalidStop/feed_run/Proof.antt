@@ -6,7 +6,7 @@ use Rattle.md_counts.proofs.cjk_invalid_stop.CjkInvalidStop.feed_run.Ti
 
 returns : tie.Need-returns
 unfolding feedRun
-returns c = cc
+returns c = simp (c .before .pick .ensures .is, c .before .before .is-set .ensures)
 
 pub feed-run-spec : {M : Type 1} → statement M
 feed-run-spec = tie.close (tie.spec (λ c κs. search needs) (λ c κs. search needs) (λ c. search needs) returns)

@@ -10,7 +10,7 @@ at-least-requires c κs = search needs
 
 returns : tie.Need-returns
 unfolding counts
-returns c = cc
+returns c = simp (c .counts-of .ensures, c .before .at-least .ensures)
 
 pub counts-spec : {M : Type 1} → statement M
 counts-spec = tie.close (tie.spec at-least-requires (λ c κs. search needs) returns)

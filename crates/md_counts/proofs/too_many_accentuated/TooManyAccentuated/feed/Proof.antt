@@ -12,7 +12,9 @@ returns c = simp (sym (c .before .is-set .ensures) ∙ not-true _ (c .if1 .taken
 
 returns-2 : tie.Need-returns-2
 unfolding feed counted
-returns-2 c = let past = c .before .before .before .before in simp (sym (past .before .is-set .ensures) ∙ not-false _ (past .if1 .left)) (cc)
+returns-2 c =
+    let past = c .before .before .before .before in
+    simp (sym (past .before .is-set .ensures) ∙ not-false _ (past .if1 .left), c .before .one .ensures .is, c .before .before .is-set2 .ensures)
 
 pub feed-spec : {M : Type 1} → statement M
 feed-spec =

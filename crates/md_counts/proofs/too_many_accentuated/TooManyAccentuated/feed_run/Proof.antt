@@ -12,7 +12,9 @@ returns c = simp (sym (c .before .is-set .ensures) ∙ not-true _ (c .if1 .taken
 
 returns-2 : tie.Need-returns-2
 unfolding feedRun countedRun
-returns-2 c = let past = c .before .before .before .before in simp (sym (past .before .is-set .ensures) ∙ not-false _ (past .if1 .left)) (cc)
+returns-2 c =
+    let past = c .before .before .before .before in
+    simp (sym (past .before .is-set .ensures) ∙ not-false _ (past .if1 .left), c .before .pick .ensures .is, c .before .before .is-set2 .ensures)
 
 pub feed-run-spec : {M : Type 1} → statement M
 feed-run-spec = tie.close (tie.spec (λ c κs. search needs) returns (λ c. search needs) (λ c κs. search needs) (λ c κs. search needs) (λ c. search needs) returns-2)

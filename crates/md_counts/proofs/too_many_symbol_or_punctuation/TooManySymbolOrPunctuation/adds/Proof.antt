@@ -6,7 +6,7 @@ use Rattle.md_counts.proofs.too_many_symbol_or_punctuation.TooManySymbo
 
 returns : tie.Need-returns
 unfolding adds repeated
-returns c = cc
+returns c = simp (c .is-set .ensures)
 
 pub adds-spec : {M : Type 1} → statement M
 adds-spec = tie.close (tie.spec (λ c κs. search needs) returns)

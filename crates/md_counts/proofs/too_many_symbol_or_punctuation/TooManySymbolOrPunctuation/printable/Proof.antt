@@ -6,7 +6,10 @@ use Rattle.md_counts.proofs.too_many_symbol_or_punctuation.TooManySymbo
 
 returns : tie.Need-returns
 unfolding printable
-returns c = cc
+returns c =
+    let at-one = c .before .before .before .before in
+    let at-adds = at-one .before .before .before in
+    simp (c .before .one2 .ensures .is, c .before .before .counted-symbol .ensures, at-one .one .ensures .is, at-one .before .is-set .ensures, at-adds .adds .ensures)
 
 pub printable-spec : {M : Type 1} → statement M
 printable-spec =

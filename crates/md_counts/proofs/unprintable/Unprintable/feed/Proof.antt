@@ -6,7 +6,7 @@ use Rattle.md_counts.proofs.unprintable.Unprintable.feed.Tie as tie
 
 returns : tie.Need-returns
 unfolding feed
-returns c = cc
+returns c = simp (c .before .one .ensures .is, c .before .before .is-set .ensures)
 
 pub feed-spec : {M : Type 1} → statement M
 feed-spec = tie.close (tie.spec (λ c. search needs) (λ c κs. search needs) (λ c κs. search needs) (λ c. search needs) returns)

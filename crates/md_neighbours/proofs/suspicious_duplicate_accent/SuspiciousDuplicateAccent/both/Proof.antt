@@ -6,7 +6,7 @@ use Rattle.md_neighbours.proofs.suspicious_duplicate_accent.SuspiciousD
 
 returns : tie.Need-returns
 unfolding both
-returns c = cc
+returns c = simp (c .is-set2 .ensures, c .before .is-set .ensures)
 
 pub both-spec : {M : Type 1} → statement M
 both-spec = tie.close (tie.spec (λ c κs. search needs) (λ c κs. search needs) returns)

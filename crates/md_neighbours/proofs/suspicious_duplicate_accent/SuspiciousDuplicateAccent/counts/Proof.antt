@@ -10,7 +10,7 @@ mul-t3 c = search needs
 
 returns : tie.Need-returns
 unfolding counts
-returns c = cc
+returns c = c .counts-of .ensures
 
 pub counts-spec : {M : Type 1} → statement M
 counts-spec = tie.close (tie.spec mul-t3 (λ c κs. search needs) returns)

@@ -7,7 +7,7 @@ use Rattle.md_neighbours.proofs.suspicious_duplicate_accent.SuspiciousD
 
 returns : tie.Need-returns
 unfolding feedRun plainRun
-returns c = simp (sym (c .before .before .latin-letter .ensures) ∙ c .before .if1 .taken) (cc)
+returns c = simp (sym (c .before .before .latin-letter .ensures) ∙ c .before .if1 .taken)
 
 returns-2 : tie.Need-returns-2
 unfolding feedRun

@@ -21,7 +21,7 @@ unfolding feed followed
 returns-3 c =
     let test = c .before .before .before .before in
     let past = test .before .before in
-    simp (sym (past .before .is-set .ensures) ∙ past .if1 .left, sym (test .before .forgets .ensures) ∙ test .if2 .left) (cc)
+    simp (sym (past .before .is-set .ensures) ∙ past .if1 .left, sym (test .before .forgets .ensures) ∙ test .if2 .left, c .before .one .ensures .is)
 
 pub feed-spec : {M : Type 1} → statement M
 feed-spec =

@@ -6,7 +6,7 @@ use Rattle.md_neighbours.proofs.suspicious_range.SuspiciousRange.feed_r
 
 returns : tie.Need-returns
 unfolding feedRun
-returns c = cc
+returns c = simp (c .pick .ensures .is, c .before .before .one .ensures .is)
 
 pub feed-run-spec : {M : Type 1} → statement M
 feed-run-spec = tie.close (tie.spec (λ c. search needs) (λ c κs. search needs) (λ c. search needs) (λ c. search needs) (λ c κs. search needs) (λ c. search needs) returns)

@@ -12,7 +12,7 @@ returns c = simp (c .if1 .taken, cond-alike, add-zero)
 
 returns-2 : tie.Need-returns-2
 unfolding closedTotal
-returns-2 c = cc
+returns-2 c = simp (c .before .pick .ensures .is, c .before .before .counted .ensures)
 
 pub closed-total-spec : {M : Type 1} → statement M
 closed-total-spec = tie.close (tie.spec returns (λ c κs. search needs) (λ c κs. search needs) (λ c. search needs) returns-2)

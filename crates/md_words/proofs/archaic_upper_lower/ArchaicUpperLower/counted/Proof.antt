@@ -6,7 +6,7 @@ use Rattle.md_words.proofs.archaic_upper_lower.ArchaicUpperLower.counte
 
 returns : tie.Need-returns
 unfolding counted
-returns c = cc
+returns c = simp (c .before .is-set .ensures)
 
 pub counted-spec : {M : Type 1} → statement M
 counted-spec = tie.close (tie.spec (λ c κs. search needs) returns)

@@ -6,7 +6,9 @@ use Rattle.md_words.proofs.archaic_upper_lower.ArchaicUpperLower.feed_c
 
 returns : tie.Need-returns
 unfolding feedCased
-returns c = cc
+returns c =
+    let at-is-set = c .before .before .before .before .before .before .before in
+    simp (c .before .before .pick .ensures .is, at-is-set .is-set .ensures, at-is-set .before .changes .ensures)
 
 pub feed-cased-spec : {M : Type 1} → statement M
 feed-cased-spec =

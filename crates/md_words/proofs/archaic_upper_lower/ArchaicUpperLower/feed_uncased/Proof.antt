@@ -6,7 +6,9 @@ use Rattle.md_words.proofs.archaic_upper_lower.ArchaicUpperLower.feed_u
 
 returns : tie.Need-returns
 unfolding inTurn seenLast
-returns c = cc
+returns c =
+    let at-one = c .before .before .before .before in
+    simp (c .is-set .ensures, c .before .pick .ensures .is, c .before .before .closed-total .ensures, at-one .one .ensures .is)
 
 pub feed-uncased-spec : {M : Type 1} → statement M
 feed-uncased-spec = tie.close (tie.spec (λ c κs. search needs) (λ c. search needs) (λ c. search needs) (λ c κs. search needs) (λ c κs. search needs) (λ c κs. search needs) returns)

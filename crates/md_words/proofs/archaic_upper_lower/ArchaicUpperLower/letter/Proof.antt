@@ -6,7 +6,10 @@ use Rattle.md_words.proofs.archaic_upper_lower.ArchaicUpperLower.letter
 
 returns : tie.Need-returns
 unfolding letter
-returns c = cc
+returns c =
+    let at-pick = c .before .before .before .before in
+    let at-changes = at-pick .before .before .before .before in
+    simp (c .before .before .is-set .ensures, at-pick .pick .ensures .is, at-changes .changes .ensures)
 
 pub letter-spec : {M : Type 1} → statement M
 letter-spec =

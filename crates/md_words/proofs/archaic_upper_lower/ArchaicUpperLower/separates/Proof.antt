@@ -6,7 +6,7 @@ use Rattle.md_words.proofs.archaic_upper_lower.ArchaicUpperLower.separa
 
 returns : tie.Need-returns
 unfolding separates
-returns c = cc
+returns c = simp (c .before .is-set2 .ensures, c .before .before .is-set .ensures)
 
 pub separates-spec : {M : Type 1} → statement M
 separates-spec = tie.close (tie.spec (λ c κs. search needs) (λ c κs. search needs) returns)

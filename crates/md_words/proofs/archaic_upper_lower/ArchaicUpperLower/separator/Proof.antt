@@ -6,7 +6,7 @@ use Rattle.md_words.proofs.archaic_upper_lower.ArchaicUpperLower.separa
 
 returns : tie.Need-returns
 unfolding separator
-returns c = cc
+returns c = simp (c .before .pick .ensures .is, c .before .before .counted .ensures)
 
 pub separator-spec : {M : Type 1} → statement M
 separator-spec = tie.close (tie.spec (λ c. search needs) (λ c κs. search needs) (λ c κs. search needs) (λ c. search needs) returns)

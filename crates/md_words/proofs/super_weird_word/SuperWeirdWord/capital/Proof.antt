@@ -6,7 +6,7 @@ use Rattle.md_words.proofs.super_weird_word.SuperWeirdWord.capital.Tie 
 
 returns : tie.Need-returns
 unfolding capital
-returns c = cc
+returns c = simp (c .is-set2 .ensures, c .before .is-set .ensures)
 
 pub capital-spec : {M : Type 1} → statement M
 capital-spec = tie.close (tie.spec (λ c κs. search needs) (λ c κs. search needs) returns)

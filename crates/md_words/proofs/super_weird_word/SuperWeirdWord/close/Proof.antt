@@ -6,7 +6,17 @@ use Rattle.md_words.proofs.super_weird_word.SuperWeirdWord.close.Tie as
 
 returns : tie.Need-returns
 unfolding close
-returns c = cc
+returns c =
+    let at-one = c .before .before .before .before in
+    let at-accented = at-one .before .before .before .before in
+    simp (
+      c .before .pick .ensures .is,
+      c .before .before .one2 .ensures .is,
+      at-one .one .ensures .is,
+      at-accented .accented .ensures,
+      at-accented .before .long .ensures,
+      at-accented .before .before .capital .ensures,
+    )
 
 pub close-spec : {M : Type 1} → statement M
 close-spec =
