@@ -28,6 +28,7 @@ pub mod expand;
 pub mod fault;
 mod form;
 mod gather;
+mod links;
 mod sound;
 
 // Bytes of a compact record.

@@ -37,6 +37,22 @@ module _ (c : List ℕ) where
       (λ l. let z : i ≡ j = omega arith in rw z (seen-step j .1))
 
   -- all are at most m
+  -- each record uses one more at most
+  seen-few : (i : ℕ) → each (nextOnly c) i ≡ true → seenBefore c i ≤ i
+  unfolding seenBefore each nextOnly
+  seen-few zero e = omega arith
+  seen-few (suc i) e =
+      let a = seen-few i (and-l (each (nextOnly c) i) (leb (placeAt c i) (seenBefore c i + 1)) e) in
+      let b = leb-true (placeAt c i) (seenBefore c i + 1) (and-r (each (nextOnly c) i) (leb (placeAt c i) (seenBefore c i + 1)) e) in
+      by-test (λ (m : ℕ). m ≤ suc i) (ltb (seenBefore c i) (placeAt c i)) (placeAt c i) (seenBefore c i) (λ h. omega arith) (λ h. omega arith)
+
+  pub use-few : (m : ℕ) → inFirstUse c m ≡ true → m ≤ compactRecords c
+  unfolding inFirstUse
+  use-few m h =
+      let a : seenBefore c (compactRecords c) ≤ compactRecords c = seen-few (compactRecords c) (and-l _ (eqb (seenBefore c (compactRecords c)) m) h) in
+      let b : seenBefore c (compactRecords c) ≡ m = eqb-true _ _ (and-r (each (nextOnly c) (compactRecords c)) _ h) in
+      omega arith
+
   pub seen-most : (m i : ℕ) → ((j : ℕ) → j < i → placeAt c j ≤ m) → seenBefore c i ≤ m
   unfolding seenBefore
   seen-most m zero h = omega arith

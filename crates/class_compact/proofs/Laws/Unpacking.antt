@@ -18,7 +18,7 @@ use Rattle.base.proofs.Laws.Tests.{by-bool, split, and-l, and-r, and-yes, withi
 use Rattle.class_records.specs.Records.{records, recordAt, goodTable}
 use Rattle.classes.proofs.Laws.Check.{free-good}
 use Rattle.ring.specs.Record.{leBytes}
-use Rattle.class_compact.specs.Form.{COMPACT-RECORD, Bytes, SHARED-BYTES, LETTERS-RECORD, compactRecords, lettersIn, placeAt, baseAt, lowerAt, bytesFrom, joined}
+use Rattle.class_compact.specs.Form.{COMPACT-RECORD, Bytes, SHARED-BYTES, LETTERS-RECORD, LETTERS-AT, compactRecords, lettersIn, placeAt, baseAt, lowerAt, bytesFrom, joined}
 use Rattle.class_compact.specs.Unpacked.{lettersBytes, expansion, unpacked}
 use Rattle.class_compact.specs.Check.{noLetters, lettersAre, repeated, badCompact}
 use Rattle.class_compact.specs.Packed.{plain, alike, firstAlike, isNew, lettersBefore, packedPlace, compacted, packedRecords, packedLetters}
@@ -171,15 +171,15 @@ module _ (c l : List ℕ) (s : Sized c) (ok : badCompact c l ≡ Allowed) where
 
   -- ---- the letters before a record are those that it has seen
   new-bytes : (i : ℕ) → i < compactRecords c → placeAt c i ≡ seenBefore c i + 1
-      → bytesFrom u (i * CLASS-RECORD + 16) LETTERS-RECORD ≡ bytesFrom l (seenBefore c i * LETTERS-RECORD) LETTERS-RECORD
+      → bytesFrom u (i * CLASS-RECORD + LETTERS-AT) LETTERS-RECORD ≡ bytesFrom l (seenBefore c i * LETTERS-RECORD) LETTERS-RECORD
   new-bytes i h e =
       let w = there-is i h (omega arith) in
       let z : placeAt c i - 1 ≡ seenBefore c i = omega arith in
-      bytes-same u l (i * CLASS-RECORD + 16) (seenBefore c i * LETTERS-RECORD) LETTERS-RECORD
+      bytes-same u l (i * CLASS-RECORD + LETTERS-AT) (seenBefore c i * LETTERS-RECORD) LETTERS-RECORD
       (λ k m. at-letters c l i h k m ∙ (rw z at (there c l i h w k m)))
 
   more : (i : ℕ) → i < compactRecords c → placeAt c i ≡ seenBefore c i + 1 → lettersBefore u i ≡ bytesFrom l 0 (seenBefore c i * LETTERS-RECORD)
-      → lettersBefore u i ++ bytesFrom u (i * CLASS-RECORD + 16) LETTERS-RECORD ≡ bytesFrom l 0 (placeAt c i * LETTERS-RECORD)
+      → lettersBefore u i ++ bytesFrom u (i * CLASS-RECORD + LETTERS-AT) LETTERS-RECORD ≡ bytesFrom l 0 (placeAt c i * LETTERS-RECORD)
   more i h e f =
       let z : (seenBefore c i + 1) * LETTERS-RECORD ≡ seenBefore c i * LETTERS-RECORD + LETTERS-RECORD = omega arith in
       rw (e, z, f, new-bytes i h e) (sym (bytes-split l 0 (seenBefore c i * LETTERS-RECORD) LETTERS-RECORD ∙ rw (zero-add (seenBefore c i * LETTERS-RECORD))))
