@@ -1,4 +1,4 @@
-// The quick test of the letters, which finds nothing in a good table: they are used in their order, and none is (0, 0) or stands twice.
+// The quick test of the letters, which finds nothing in a good table: none is (0, 0) or stands twice. That they are used in their order the expansion tells.
 ghost use mathlib.Core.Path.{_≡_};
 ghost use Prim.Native.Nat.{_≤_, _<_};
 ghost use Rattle.base.specs.Limits.{MOST-CLASSES};
@@ -6,31 +6,11 @@ ghost use Rattle.class_compact.specs.Form.{lettersIn};
 ghost use Rattle.class_compact.specs.Inner.Form.{Sized};
 ghost use Rattle.class_compact.specs.Inner.Links.{Linked};
 ghost use Rattle.class_compact.specs.Inner.Sound as inner;
-use crate::COMPACT_RECORD;
 use crate::LETTERS_RECORD;
 use crate::form::base_at;
 use crate::form::lower_at;
-use crate::form::place_of;
 use crate::links::LINKS;
 use crate::links::slot_for;
-use base::pick;
-
-// Whether the records use m letters, first in their order. With no early exit, since nearly every table is good.
-fn in_first_use(records: &[u8], m: usize) -> bool
-    ensures { λ r. ⌜ r ≡ inner.inFirstUse (now (records .entry)) m ⌝ }
-{
-    let n = records.len() / COMPACT_RECORD;
-    let mut i = 0;
-    let mut seen = 0;
-    let mut good = true;
-    while i < n {
-        let place = place_of(records, i);
-        good = good & (place <= seen + 1);
-        seen = pick(seen < place, place, seen);
-        i += 1;
-    }
-    good & (seen as usize == m)
-}
 
 // Whether the letters k are not (0, 0) and no repeat; where they are not, they are noted.
 fn is_own(letters: &[u8], k: usize, links: &mut [u16; LINKS]) -> bool
@@ -68,14 +48,14 @@ fn all_own(letters: &[u8]) -> bool
 }
 
 // Whether all letters are good. Letters that are not used in order are not looked at further: there may be any number of them.
-pub fn is_sound(records: &[u8], letters: &[u8]) -> bool
-    requires { ⌜ Sized (now records) ⌝ }
+pub fn is_sound(records: &[u8], letters: &[u8], ordered: bool) -> bool
+    requires { ⌜ Sized (now records) × (ordered ≡ inner.inFirstUse (now records) (lettersIn (now letters))) ⌝ }
     ensures { λ r. ⌜ r ≡ inner.sound (now (records .entry)) (now (letters .entry)) ⌝ }
 {
     if letters.len() % LETTERS_RECORD != 0 {
         return false;
     }
-    if !in_first_use(records, letters.len() / LETTERS_RECORD) {
+    if !ordered {
         return false;
     }
     all_own(letters)

@@ -13,7 +13,10 @@ bad-filled-requires : tie.Need-bad-filled-requires
 bad-filled-requires c κs =
     let at-unpack-into = c .before .before in
     let entry = at-unpack-into .before .before .before .before in
-    record { sized = entry .pre; is = expansion-front _ _ _ _ (omega (arith, entry .pre .few)) (at-unpack-into .unpack-into .ensures) }
+    record {
+      filled = record { sized = entry .pre; is = expansion-front _ _ _ _ (omega (arith, entry .pre .few)) (at-unpack-into .unpack-into .ensures .1) };
+      order = at-unpack-into .unpack-into .ensures .0;
+    }
 
 pub bad-expanded-spec : {M : Type 1} → statement M
 bad-expanded-spec =

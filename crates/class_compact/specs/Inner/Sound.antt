@@ -1,4 +1,5 @@
--- Words of inner contracts, beside Check: the quick test of the letters (`sound`), and what it leaves to be found (`beyondTable`). No public promise
+-- Words of inner contracts, beside Check: the quick test of the letters (`sound`), what it leaves to be found (`beyondTable`), and the
+-- expansion that is at hand (`Expanded`). No public promise
 -- rests on them.
 -- Assumes nothing.
 use Prim.Native.Nat.{ℕ, zero, suc, _+_, _%_, _<_, _≤_}
@@ -11,7 +12,7 @@ use Rattle.base.specs.declared.Cause.{Cause}
 use Rattle.base.specs.declared.Cause.the-variants.{Allowed}
 use Rattle.base.specs.First.{first, each}
 use Rattle.class_compact.specs.Form.{LETTERS-RECORD, compactRecords, lettersIn, placeAt}
-use Rattle.class_compact.specs.Inner.Form.{HALF}
+use Rattle.class_compact.specs.Inner.Form.{HALF, Filled}
 use Rattle.class_compact.specs.Inner.Links.{Linked}
 use Rattle.class_compact.specs.Check.{missing, noLetters, repeated, firstUse, badLetters, firstBadLetters, badCompact}
 
@@ -66,3 +67,8 @@ pub record Told (c l : List ℕ) (k : ℕ) (b : Bool) : Type 0 where
 pub record FirstBad (c l : List ℕ) (r : ℕ) : Type 0 where
   pub is : r ≡ firstBadLetters c l
   pub small : r < HALF
+
+-- the expansion, and whether the records use all letters, first in their order
+pub record Expanded (c l table : List ℕ) (ordered : Bool) : Type 0 where
+  pub filled : Filled c l table
+  pub order : ordered ≡ inFirstUse c (lettersIn l)

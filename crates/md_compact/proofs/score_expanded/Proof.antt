@@ -15,7 +15,10 @@ score-table-requires : tie.Need-score-table-requires
 score-table-requires c κs =
     let at-unpack-into = c .before .before in
     let entry = at-unpack-into .before .before .before .before .before .before in
-    record { sized = entry .pre; is = expansion-front _ _ _ _ (omega (arith, entry .pre .few)) (at-unpack-into .unpack-into .ensures) }
+    record {
+      filled = record { sized = entry .pre; is = expansion-front _ _ _ _ (omega (arith, entry .pre .few)) (at-unpack-into .unpack-into .ensures .1) };
+      order = at-unpack-into .unpack-into .ensures .0;
+    }
 
 pub score-expanded-spec : {M : Type 1} → statement M
 score-expanded-spec =

@@ -6,13 +6,13 @@ use Rattle.class_compact.proofs.fault.beyond_table.Statement.{statement
 use Rattle.class_compact.proofs.fault.beyond_table.Tie as tie
 
 is-sound-requires : tie.Need-is-sound-requires
-is-sound-requires c κs = c .before .before .before .pre .sized
+is-sound-requires c κs = (c .before .before .before .pre .filled .sized, c .before .before .before .pre .order)
 
 returns : tie.Need-returns
 returns c = beyond-sound _ _ (sym (c .if1 .taken) ∙ c .before .is-sound .ensures)
 
 fault-requires : tie.Need-fault-requires
-fault-requires c κs = c .before .before .before .before .before .pre
+fault-requires c κs = c .before .before .before .before .before .pre .filled
 
 returns-2 : tie.Need-returns-2
 returns-2 c = c .fault .ensures ∙ beyond-fault _ _ (sym (c .before .if1 .left) ∙ c .before .before .is-sound .ensures)

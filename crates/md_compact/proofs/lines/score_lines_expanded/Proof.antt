@@ -15,7 +15,10 @@ score-lines-table-requires : tie.Need-score-lines-table-requires
 score-lines-table-requires c κs =
     let at-unpack-into = c .before .before .before in
     let entry = at-unpack-into .before .before .before .before .before .before .before in
-    record { sized = entry .pre; is = expansion-front _ _ _ _ (omega (arith, entry .pre .few)) (at-unpack-into .unpack-into .ensures) }
+    record {
+      filled = record { sized = entry .pre; is = expansion-front _ _ _ _ (omega (arith, entry .pre .few)) (at-unpack-into .unpack-into .ensures .1) };
+      order = at-unpack-into .unpack-into .ensures .0;
+    }
 
 pub score-lines-expanded-spec : {M : Type 1} → statement M
 score-lines-expanded-spec =

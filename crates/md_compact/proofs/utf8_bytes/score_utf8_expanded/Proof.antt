@@ -15,7 +15,10 @@ score-utf8-table-requires : tie.Need-score-utf8-table-requires
 score-utf8-table-requires c κs =
     let at-unpack-into = c .before .before in
     let entry = at-unpack-into .before .before .before .before .before .before in
-    record { sized = entry .pre; is = expansion-front _ _ _ _ (omega (arith, entry .pre .few)) (at-unpack-into .unpack-into .ensures) }
+    record {
+      filled = record { sized = entry .pre; is = expansion-front _ _ _ _ (omega (arith, entry .pre .few)) (at-unpack-into .unpack-into .ensures .1) };
+      order = at-unpack-into .unpack-into .ensures .0;
+    }
 
 pub score-utf8-expanded-spec : {M : Type 1} → statement M
 score-utf8-expanded-spec =
