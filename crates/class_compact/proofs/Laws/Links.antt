@@ -23,10 +23,10 @@ none-below j h = absurd (no h)
     no a = omega arith
 
 -- ---- nothing linked
-abbrev zeros : ℕ → List ℕ
+abbrev pub zeros : ℕ → List ℕ
 zeros n = replicate n 0
 
-zeros-length : (n : ℕ) → length (zeros n) ≡ n
+pub zeros-length : (n : ℕ) → length (zeros n) ≡ n
 zeros-length n = length-replicate {A = ℕ} n 0
 
 blank : (n s : ℕ) → getD (zeros n) s 0 ≡ 0
