@@ -1,8 +1,7 @@
 // Letters that were met are found again: each mark has the place of the letters that came first with it, and each letters have two slots for those that
 // came to them later. A bit of the two numbers says which of the two, so that letters are found in as many turns as they have bits at most, whatever
 // the letters are.
-ghost use mathlib.Core.Path.{_≡_};
-ghost use Rattle.class_compact.specs.Inner.Links.{Mark, Linked, Slot, bitsOf};
+ghost use Rattle.class_compact.specs.Inner.Links.{Mark, Linked, Slot};
 use crate::form::HALF;
 use crate::form::base_at;
 use crate::form::lower_at;
@@ -30,19 +29,13 @@ fn mark_for(base: u32, lower: u32) -> usize
     spread as usize % MARKS
 }
 
-fn bits_of(base: u32, lower: u32) -> u64
-    ensures { λ r. ⌜ r ≡ bitsOf base lower ⌝ }
-{
-    base as u64 * WORD + lower as u64
-}
-
 // The slot where these letters have their place if they are among the first `count`, and that is to be given theirs if they are not.
 pub fn slot_for(letters: &[u8], count: usize, base: u32, lower: u32, links: &[u16; LINKS]) -> usize
     requires { ⌜ Linked (now letters) count (now links) ⌝ }
     ensures { λ r. ⌜ Slot (now (letters .entry)) count base lower (now (links .entry)) r ⌝ }
 {
     let mut slot = mark_for(base, lower);
-    let mut bits = bits_of(base, lower);
+    let mut bits = base as u64 * WORD + lower as u64;
     while links[slot] != 0 {
         let place = links[slot] as usize;
         let k = place - 1;

@@ -1,5 +1,6 @@
 -- The place of a record's letters among those before it, found by the links: none (`among-none`), that of the same letters (`among-old`), and the next
--- (`among-new`); and what the rooms are once the record was gathered (`gathered-old`, `gathered-new`). The links are those of the list that packing ends with, of which the room of letters has the front.
+-- (`among-new`); and what the rooms are once the record was gathered (`gathered-old`, `gathered-new`). The links are those of the list that packing
+-- ends with, of which the room of letters has the front.
 -- Assumes nothing.
 use Prim.Native.Nat.{ℕ, _+_, _-_, _*_, _≤_, _<_}
 use mathlib.Core.Path.{_≡_, refl, sym, ap, _∙_}
@@ -17,7 +18,8 @@ use Rattle.class_compact.specs.Inner.Gathered.{Placed, Among, Gathered}
 use Rattle.class_compact.specs.Inner.Links.{Linked, Slot}
 use Rattle.class_compact.proofs.Laws.Form.{bytes-slice}
 use Rattle.class_compact.proofs.Laws.Links.{linked-same, walked-same, linked-more}
-use Rattle.class_compact.proofs.Laws.Numbering.{number-few, number-old, number-new, number-rising, number-past, letters-new, base-put, lower-put, letter-from, place-none, place-found, new-past, old-within, base-front, lower-front}
+use Rattle.class_compact.proofs.Laws.Numbering.{number-few, number-old, number-new, number-past, letters-new, base-put, lower-put, letter-from}
+use Rattle.class_compact.proofs.Laws.Numbering.{place-none, place-found, new-past, old-within, base-front, lower-front}
 
 module _ (t : List ℕ) (i count : ℕ) (used links : List ℕ) (g : Placed t i used count links) where
   same : (k : ℕ) → k < count → (baseAt (packedLetters t) k ≡ baseAt used k) × (lowerAt (packedLetters t) k ≡ lowerAt used k)

@@ -56,8 +56,10 @@ loop-again c =
     let at-pick = at-expanded .before in
     let at-place-of = at-pick .before in
     let at-loop-test = at-place-of .before in
-    let turn = at-loop-test .before in
-    (laying-more _ _ _ _ (turn .loop .inv .0) (at-loop-test .loop-test .taken) _ _ (at-expanded .expanded .ensures) (at-lay .lay .ensures), seen-more _ _ _ _ _ _ (turn .loop .inv .1) (at-loop-test .loop-test .taken) (at-place-of .place-of .ensures) (at-pick .pick .ensures))
+    let turn = at-loop-test .before in (
+      laying-more _ _ _ _ (turn .loop .inv .0) (at-loop-test .loop-test .taken) _ _ (at-expanded .expanded .ensures) (at-lay .lay .ensures),
+      seen-more _ _ _ _ _ _ (turn .loop .inv .1) (at-loop-test .loop-test .taken) (at-place-of .place-of .ensures) (at-pick .pick .ensures),
+    )
 
 same-length : tie.Need-same-length Inv-loop μ-loop
 same-length c =

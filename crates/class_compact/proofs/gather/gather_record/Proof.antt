@@ -69,7 +69,8 @@ returns-2 c =
     let at-compact-record = at-lay .before .before .before in
     let at-place-among = at-compact-record .before in
     let entry = at-place-among .before .before .before .before .before .before in
-    gathered-new _ _ _ _ _ (entry .pre .0) _ _ (at-place-among .place-among .ensures) _ _ _ (at-compact-record .compact-record .ensures) (at-lay .lay .ensures) (at-if1 .if1 .left) _ (at-lay2 .lay2 .ensures)
+    gathered-new _ _ _ _ _ (entry .pre .0) _ _ (at-place-among .place-among .ensures) _ _ _ (at-compact-record .compact-record .ensures)
+    (at-lay .lay .ensures) (at-if1 .if1 .left) _ (at-lay2 .lay2 .ensures)
 
 pub gather-record-spec : {M : Type 1} → statement M
 gather-record-spec =

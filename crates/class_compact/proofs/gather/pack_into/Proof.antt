@@ -41,7 +41,10 @@ same-length-2 c =
 
 returns : tie.Need-returns Inv-loop μ-loop
 returns c =
-    (gathered-number _ _ _ (c .before .loop .inv) (c .loop-test .left), (gathered-records _ _ _ (c .before .loop .inv) (c .loop-test .left), gathered-letters _ _ _ (c .before .loop .inv) (c .loop-test .left)))
+    let done = c .before .loop .inv in (
+      gathered-number _ _ _ done (c .loop-test .left),
+      (gathered-records _ _ _ done (c .loop-test .left), gathered-letters _ _ _ done (c .loop-test .left)),
+    )
 
 pub pack-into-spec : {M : Type 1} → statement M
 pack-into-spec =

@@ -45,7 +45,8 @@ returns-2 c =
     let at-if1 = at-slot-for .before .before in
     let at-record-at = at-if1 .before .before .before in
     let entry = at-record-at .before .before .before in
-    among-old _ _ _ _ _ (entry .pre) _ _ _ (rw (at-record-at .record-at .ensures) at (at-if1 .if1 .left)) (rw (at-record-at .record-at .ensures)) (rw (at-record-at .record-at .ensures)) (at-slot-for .slot-for .ensures) (c .if2 .taken)
+    among-old _ _ _ _ _ (entry .pre) _ _ _ (rw (at-record-at .record-at .ensures) at (at-if1 .if1 .left)) (rw (at-record-at .record-at .ensures)) (rw (at-record-at .record-at .ensures))
+    (at-slot-for .slot-for .ensures) (c .if2 .taken)
 
 add-links : tie.Need-add-links
 add-links c =
@@ -81,7 +82,8 @@ returns-3 c =
     let at-if1 = at-slot-for .before .before in
     let at-record-at = at-if1 .before .before .before in
     let entry = at-record-at .before .before .before in
-    among-new _ _ _ _ _ (entry .pre) _ _ _ (rw (at-record-at .record-at .ensures) at (at-if1 .if1 .left)) (rw (at-record-at .record-at .ensures)) (rw (at-record-at .record-at .ensures)) (at-slot-for .slot-for .ensures) (c .if2 .left)
+    among-new _ _ _ _ _ (entry .pre) _ _ _ (rw (at-record-at .record-at .ensures) at (at-if1 .if1 .left)) (rw (at-record-at .record-at .ensures)) (rw (at-record-at .record-at .ensures))
+    (at-slot-for .slot-for .ensures) (c .if2 .left)
 
 pub place-among-spec : {M : Type 1} → statement M
 place-among-spec =

@@ -1,10 +1,10 @@
 -- The walk passes other letters, and each place that it meets lies behind the slot where it stands, so that it ends. Assumes nothing.
 use Prim.Native.Nat.{_-_}
-use Rattle.class_compact.proofs.Loops.Walking.{Walking, walking-start, walking-inside, walking-more, walking-none, walking-some}
-use Rattle.class_compact.proofs.Loops.Walking.{walking-rises}
+use Rattle.class_compact.proofs.Loops.Walking.{Walking, walking-start, walking-inside, walking-rises, walking-more, walking-none, walking-some}
 use Rattle.class_compact.specs.Check.{lettersAre}
-use Rattle.class_compact.specs.Inner.Links.{LINKS}
+use Rattle.class_compact.specs.Inner.Links.{LINKS, bitsOf}
 use borrow.Author.Needs.{needs}
+use mathlib.Core.Path.{refl}
 use native.Mathlib.Omega.{arith}
 use Rattle.class_compact.proofs.links.slot_for.Statement.{statement}
 use Rattle.class_compact.proofs.links.slot_for.Tie as tie
@@ -16,10 +16,8 @@ abbrev μ-loop : tie.MeasureT-loop
 μ-loop letters count base lower links slot₀ bits₀ slot bits = LINKS - slot
 
 loop-holds : tie.Need-loop-holds Inv-loop μ-loop
-loop-holds c =
-    let at-mark-for = c .before in
-    let entry = at-mark-for .before .before in
-    walking-start _ _ _ _ _ (entry .pre) _ _ (at-mark-for .mark-for .ensures) (c .bits-of .ensures)
+unfolding bitsOf
+loop-holds c = walking-start _ _ _ _ _ (c .before .before .pre) _ _ (c .mark-for .ensures) refl
 
 cast-place : tie.Need-cast-place Inv-loop μ-loop
 cast-place c =
@@ -87,7 +85,8 @@ slot-for-spec =
     Inv-loop
     μ-loop
     (λ c κs. search needs)
-    (λ c κs. search needs)
+    (λ c. search needs)
+    (λ c. search needs)
     loop-holds
     (λ c. search needs)
     (λ c. search needs)

@@ -35,7 +35,12 @@ returns-2 c =
     let at-lower-at = at-if1 .before in
     let at-base-at = at-lower-at .before in
     let entry = at-base-at .before .before in
-    record { is = own-again _ _ _ _ (at-base-at .base-at .ensures) (at-lower-at .lower-at .ensures) (at-if1 .if1 .left) _ _ (at-slot-for .slot-for .ensures) (c .if2 .taken) (entry .pre .2 .small _); linked = λ e. clash e refl }
+    record {
+      is =
+          own-again _ _ _ _ (at-base-at .base-at .ensures) (at-lower-at .lower-at .ensures) (at-if1 .if1 .left) _ _ (at-slot-for .slot-for .ensures) (c .if2 .taken)
+          (entry .pre .2 .small _);
+      linked = λ e. clash e refl;
+    }
 
 cast-links : tie.Need-cast-links
 cast-links c =
@@ -61,7 +66,13 @@ returns-3 c =
     let at-lower-at = at-if1 .before in
     let at-base-at = at-lower-at .before in
     let entry = at-base-at .before .before in
-    record { is = own-free _ _ _ _ (at-base-at .base-at .ensures) (at-lower-at .lower-at .ensures) (at-if1 .if1 .left) _ _ (at-slot-for .slot-for .ensures) (c .if2 .left); linked = λ e. own-linked _ _ _ _ (at-base-at .base-at .ensures) (at-lower-at .lower-at .ensures) _ _ (entry .pre .2) (entry .pre .1) (entry .pre .0) (at-slot-for .slot-for .ensures) (c .if2 .left) }
+    record {
+      is =
+          own-free _ _ _ _ (at-base-at .base-at .ensures) (at-lower-at .lower-at .ensures) (at-if1 .if1 .left) _ _ (at-slot-for .slot-for .ensures) (c .if2 .left);
+      linked =
+          λ e. own-linked _ _ _ _ (at-base-at .base-at .ensures) (at-lower-at .lower-at .ensures) _ _ (entry .pre .2) (entry .pre .1) (entry .pre .0)
+          (at-slot-for .slot-for .ensures) (c .if2 .left);
+    }
 
 pub is-own-spec : {M : Type 1} → statement M
 is-own-spec =
