@@ -4,10 +4,10 @@
 -- Assumes nothing.
 use Prim.Native.Nat.{ℕ, _+_, _-_, _*_, _≤_, _<_}
 use mathlib.Core.Path.{_≡_, refl, sym, ap, _∙_}
-use mathlib.Core.Bool.{Bool, true, false}
+use mathlib.Core.Bool.{true, false}
 use mathlib.Core.List.{List}
 use native.Mathlib.Omega.{arith}
-use lib.ListN.{length, getD, set, take, drop}
+use lib.ListN.{getD, set, take, drop}
 use Rattle.base.specs.Limits.{CLASS-RECORD, MOST-CLASSES}
 use Rattle.base.specs.Put.{put}
 use Rattle.base.proofs.Laws.Put.{put-nothing}

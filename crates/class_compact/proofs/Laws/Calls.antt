@@ -1,8 +1,8 @@
 -- The returns of the calls, one by one: of the quick test, of the search for a fault, of the check, of unpacking and of packing.
 -- Assumes nothing.
-use Prim.Native.Nat.{ℕ, _+_, _*_, _%_, _≤_, _<_}
-use mathlib.Core.Path.{_≡_, refl, sym, ap, _∙_}
-use mathlib.Core.Bool.{Bool, true, false, not, _&&_, _||_}
+use Prim.Native.Nat.{ℕ, _*_, _%_, _≤_, _<_}
+use mathlib.Core.Path.{_≡_, sym, ap, _∙_}
+use mathlib.Core.Bool.{true, false, not, _||_}
 use mathlib.Core.List.{List, [], _∷_}
 use native.Mathlib.Omega.{arith}
 use lib.ListN.{length, take}
@@ -13,7 +13,7 @@ use Rattle.base.specs.declared.Cause.{Cause}
 use Rattle.base.specs.declared.Cause.the-variants.{Allowed, Refused}
 use Rattle.base.specs.declared.Counted.the-variants.{Count, Refused as NotCounted}
 use Rattle.base.specs.Causes.{refusedAt, given, firstOf}
-use Rattle.base.specs.Counted.{countUnless, lentAfter}
+use Rattle.base.specs.Counted.{countUnless}
 use Rattle.base.specs.Limits.{CLASS-RECORD, MOST-CLASSES}
 use Rattle.base.specs.Put.{put}
 use Rattle.base.specs.Refusals.{BAD-CLASSES, NO-ROOM}
@@ -30,7 +30,7 @@ use Rattle.class_compact.specs.Unpacked.{unpacked}
 use Rattle.class_compact.specs.Check.{firstBadRecord, firstBadLetters, badCompactLength, badCompactNumber, badCompactRecord, badLettersLength, badLettersRecord, badCompact}
 use Rattle.class_compact.specs.Packed.{compacted, packedRecords, packedLetters}
 use Rattle.class_compact.specs.Calls.{unpackCauses, unpackAnswer, unpackAfter, packCauses, packedUnless, packAnswer, recordsAfter, lettersAfter}
-use Rattle.class_compact.specs.Inner.Form.{Sized, Filled}
+use Rattle.class_compact.specs.Inner.Form.{Sized}
 use Rattle.class_compact.specs.Inner.Sound.{inFirstUse, allOwn, sound, beyondTable}
 use Rattle.class_compact.proofs.Laws.Links.{zeros, zeros-length}
 use Rattle.class_compact.proofs.Laws.Firsts.{or-no-l, or-no-r}

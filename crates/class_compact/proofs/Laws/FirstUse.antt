@@ -2,20 +2,19 @@
 -- one past the largest before it, and the largest of all is their number (Inner.Sound). The one follows from the other (`used-in-order`, `order-used`).
 -- Assumes nothing.
 use Prim.Native.Nat.{ℕ, zero, suc, _+_, _-_, _≤_, _<_}
-use mathlib.Core.Path.{_≡_, refl, sym, ap, _∙_}
-use mathlib.Core.Bool.{Bool, true, false, cond, _&&_}
+use mathlib.Core.Path.{_≡_, sym, ap}
+use mathlib.Core.Bool.{true, false}
 use mathlib.Core.List.{List}
-use native.Mathlib.Numerals.{add-one}
 use native.Mathlib.Omega.{arith}
 use lib.Dec.{eqb, leb, ltb}
 use borrow.Author.Tests.{eqb-true, eqb-false, eq-eqb, ne-eqb, leb-true, le-leb, ltb-true, ltb-false, lt-ltb, le-ltb}
 use Rattle.base.specs.First.{first, each}
-use Rattle.base.proofs.Laws.First.{first-found, first-before, first-within, each-at, each-all}
+use Rattle.base.proofs.Laws.First.{first-found, first-within, each-at, each-all}
 use Rattle.base.proofs.Laws.Tests.{by-bool, by-test, split, and-l, and-r, and-yes}
 use Rattle.class_compact.specs.Form.{compactRecords, placeAt}
 use Rattle.class_compact.specs.Check.{firstUse, unused, early}
 use Rattle.class_compact.specs.Inner.Sound.{seenBefore, nextOnly, inFirstUse}
-use Rattle.class_compact.proofs.Laws.Firsts.{clash, first-least}
+use Rattle.class_compact.proofs.Laws.Firsts.{first-least}
 
 module _ (c : List ℕ) where
   -- ---- the largest place before a record

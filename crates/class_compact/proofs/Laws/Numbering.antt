@@ -4,19 +4,18 @@
 -- Assumes nothing.
 use Prim.Native.Nat.{ℕ, zero, suc, _+_, _-_, _*_, _/_, _≤_, _<_}
 use mathlib.Core.Path.{_≡_, refl, sym, ap, _∙_}
-use mathlib.Core.Bool.{Bool, true, false, cond, not, _&&_}
+use mathlib.Core.Bool.{Bool, true, false, not, _&&_}
 use mathlib.Core.List.{List, [], _∷_, _++_}
-use native.Mathlib.Nat.{add-zero, zero-add}
 use native.Mathlib.Numerals.{add-one}
 use native.Mathlib.Omega.{arith}
 use lib.ListN.{length, getD, take, length-append, List·getD-append}
 use lib.Seq.{getD-take, getD-append-add}
 use lib.Dec.{eqb}
-use borrow.Author.Tests.{eqb-true, eqb-false, eq-eqb, not-true, not-false}
+use borrow.Author.Tests.{eqb-true, eq-eqb, not-true}
 use Rattle.base.specs.First.{first}
 use Rattle.base.specs.Limits.{CLASS-RECORD}
 use Rattle.base.specs.LittleEndian.{le32}
-use Rattle.base.proofs.Laws.First.{first-is, first-none, first-before, first-found, first-within}
+use Rattle.base.proofs.Laws.First.{first-is, first-none, first-before, first-within}
 use Rattle.base.proofs.Laws.Tests.{by-bool, split, and-l, and-r, and-yes}
 use Rattle.class_records.specs.Records.{records, recordAt}
 use Rattle.class_compact.specs.Form.{LETTERS-RECORD, LETTERS-AT, lettersIn, baseAt, lowerAt, bytesFrom, joined}
@@ -24,7 +23,7 @@ use Rattle.class_compact.specs.Check.{lettersAre}
 use Rattle.class_compact.specs.Packed.{plain, alike, firstAlike, isNew, newLetters, lettersBefore, packedPlace}
 use Rattle.class_compact.specs.Inner.Gathered.{Placed}
 use Rattle.class_compact.proofs.Laws.Firsts.{clash, first-least, first-hits, first-same}
-use Rattle.class_compact.proofs.Laws.Form.{bytes-length, bytes-at, bytes-are, le32-same}
+use Rattle.class_compact.proofs.Laws.Form.{bytes-length, bytes-at, le32-same}
 
 -- equal numbers of two pairs of tests
 pub both : (a b x y : ℕ) → (eqb a x && eqb b y) ≡ true → (a ≡ x) × (b ≡ y)

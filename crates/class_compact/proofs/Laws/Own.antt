@@ -1,17 +1,17 @@
 -- The letters that are (0, 0) or a repeat: what each way of the code to tell it answers.
 -- Assumes nothing.
 use Prim.Native.Nat.{ℕ, _+_, _≤_, _<_}
-use mathlib.Core.Path.{_≡_, refl, sym, ap, _∙_}
-use mathlib.Core.Bool.{Bool, true, false, not, _&&_, _||_}
+use mathlib.Core.Path.{_≡_, refl, sym, _∙_}
+use mathlib.Core.Bool.{Bool, true, false, _&&_, _||_}
 use mathlib.Core.List.{List}
 use native.Mathlib.Omega.{arith}
 use lib.ListN.{getD, set, replicate}
 use lib.Dec.{eqb, ltb}
-use borrow.Author.Tests.{eqb-true, eqb-false, eq-eqb, ne-eqb, le-ltb, lt-ltb, ltb-true}
+use borrow.Author.Tests.{eqb-false, eq-eqb, ne-eqb, le-ltb, lt-ltb}
 use Rattle.base.specs.First.{first, each}
 use Rattle.base.specs.Limits.{MOST-CLASSES}
-use Rattle.base.proofs.Laws.First.{first-none, first-within, each-at, each-more}
-use Rattle.base.proofs.Laws.Tests.{by-bool, split, and-l, and-r, and-yes}
+use Rattle.base.proofs.Laws.First.{first-within, each-at, each-more}
+use Rattle.base.proofs.Laws.Tests.{by-bool, split, and-yes}
 use Rattle.class_compact.specs.Form.{compactRecords, lettersIn, placeAt, baseAt, lowerAt}
 use Rattle.class_compact.specs.Check.{noLetters, lettersAre, repeated, unused, early, badLetters, firstUse}
 use Rattle.class_compact.specs.Inner.Links.{LINKS, Linked, Slot}

@@ -2,21 +2,19 @@
 -- Assumes nothing.
 use Prim.Native.Nat.{ℕ, zero, suc, _+_, _-_, _*_, _/_, _%_, _≤_, _<_}
 use mathlib.Core.Path.{_≡_, refl, sym, ap, _∙_}
-use mathlib.Core.Bool.{Bool, true, false, cond, not, _&&_}
-use mathlib.Core.List.{List, [], _∷_, _++_}
-use native.Mathlib.Nat.{add-zero, zero-add}
+use mathlib.Core.Bool.{true, false, not, _&&_}
+use mathlib.Core.List.{List, _∷_, _++_}
 use native.Mathlib.Omega.{arith}
-use lib.ListN.{length, getD, replicate, List·getD-append}
-use lib.Seq.{getD-append-add}
+use lib.ListN.{length, getD, List·getD-append}
 use lib.Dec.{eqb, leb, ltb}
-use borrow.Author.Tests.{eqb-true, eq-eqb, leb-true, le-leb, lt-ltb, le-ltb, ltb-true, ltb-false}
+use borrow.Author.Tests.{eqb-true, eq-eqb, le-leb, lt-ltb, le-ltb}
 use Rattle.base.specs.declared.Cause.the-variants.{Allowed}
 use Rattle.base.specs.First.{first, each}
-use Rattle.base.specs.Limits.{CLASS-RECORD, MOST-CLASSES}
-use Rattle.base.specs.LittleEndian.{le16, le32}
+use Rattle.base.specs.Limits.{CLASS-RECORD}
+use Rattle.base.specs.LittleEndian.{le16}
 use Rattle.base.specs.Tests.{within}
 use Rattle.base.proofs.Laws.First.{first-none, each-all}
-use Rattle.base.proofs.Laws.Tests.{by-bool, split, and-l, and-r, and-yes, within-yes}
+use Rattle.base.proofs.Laws.Tests.{by-bool, split, and-l, and-yes, within-yes}
 use Rattle.class_records.specs.Records.{records, recordAt, goodTable}
 use Rattle.class_records.proofs.Laws.Records.{table-number, table-fields}
 use Rattle.classes.proofs.Laws.Check.{good-free}
@@ -31,7 +29,7 @@ use Rattle.class_compact.proofs.Laws.Bytes.{words-same, words-zero, hal
 use Rattle.class_compact.proofs.Laws.Calls.{records-length, letters-length}
 use Rattle.class_compact.proofs.Laws.Firsts.{clash}
 use Rattle.class_compact.proofs.Laws.Form.{bytes-length, bytes-at, bytes-same, bytes-split, joined-same, joined-at, joined-table}
-use Rattle.class_compact.proofs.Laws.Numbering.{both, alike-base, alike-lower, alike-of, alike-at, alike-first, alike-not, first-new, new-own, new-some, before-length, number-new}
+use Rattle.class_compact.proofs.Laws.Numbering.{both, alike-base, alike-lower, alike-of, alike-at, alike-first, alike-not, first-new, new-own, new-some, number-new}
 use Rattle.class_compact.proofs.Laws.Numbering.{number-old, number-none, number-rising, number-past, number-few, bytes-there, base-put, lower-put, From, letter-from, place-none}
 use Rattle.class_compact.proofs.Laws.Numbering.{place-some, place-few, new-place, new-past}
 use Rattle.class_compact.proofs.Laws.Packed.{compacted-length}

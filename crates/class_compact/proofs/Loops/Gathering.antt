@@ -3,12 +3,10 @@
 -- Assumes nothing.
 use Prim.Native.Nat.{ℕ, _+_, _-_, _*_, _≤_, _<_}
 use mathlib.Core.Path.{_≡_, refl, sym, ap, _∙_}
-use mathlib.Core.Bool.{true, false}
-use mathlib.Core.List.{List, _++_}
-use native.Mathlib.Nat.{zero-add}
+use mathlib.Core.List.{List}
 use native.Mathlib.Omega.{arith}
 use lib.ListN.{length, replicate}
-use Rattle.base.specs.Limits.{CLASS-RECORD, MOST-CLASSES}
+use Rattle.base.specs.Limits.{MOST-CLASSES}
 use Rattle.base.specs.Put.{put}
 use Rattle.base.proofs.Laws.Put.{put-nothing, put-length, put-part, put-on}
 use Rattle.class_records.specs.Records.{records}

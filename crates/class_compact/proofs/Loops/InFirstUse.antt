@@ -1,8 +1,8 @@
 -- The walk that holds each record's place to the largest before it (`Seen`): its start, its step and its end.
 -- Assumes nothing.
 use Prim.Native.Nat.{ℕ, _+_, _≤_, _<_}
-use mathlib.Core.Path.{_≡_, refl, sym, ap, _∙_}
-use mathlib.Core.Bool.{Bool, true, cond, _&&_}
+use mathlib.Core.Path.{_≡_, refl, _∙_}
+use mathlib.Core.Bool.{Bool, true, _&&_}
 use mathlib.Core.List.{List}
 use native.Mathlib.Numerals.{add-one}
 use native.Mathlib.Omega.{arith}
@@ -11,7 +11,7 @@ use Rattle.base.specs.First.{each}
 use Rattle.base.specs.Inner.Numbers.{Picked}
 use Rattle.base.proofs.Laws.First.{each-more}
 use Rattle.base.proofs.Laws.Tests.{by-test}
-use Rattle.class_compact.specs.Form.{compactRecords, placeAt}
+use Rattle.class_compact.specs.Form.{compactRecords}
 use Rattle.class_compact.specs.Inner.Form.{Place, HALF}
 use Rattle.class_compact.specs.Inner.Sound.{seenBefore, nextOnly, inFirstUse}
 

@@ -1,12 +1,12 @@
 -- The walk to the slot of letters (`Walking`): its start, its step and its two ends.
 -- Assumes nothing.
 use Prim.Native.Nat.{ℕ, _+_, _-_, _*_, _/_, _%_, _≤_, _<_}
-use mathlib.Core.Path.{_≡_, refl, sym, ap, _∙_}
-use mathlib.Core.Bool.{Bool, true, false}
+use mathlib.Core.Path.{_≡_}
+use mathlib.Core.Bool.{true, false}
 use mathlib.Core.List.{List}
 use native.Mathlib.Numerals.{add-one}
 use native.Mathlib.Omega.{arith}
-use lib.ListN.{length, getD}
+use lib.ListN.{getD}
 use Rattle.base.specs.First.{first}
 use Rattle.base.proofs.Laws.First.{first-is, first-none}
 use Rattle.base.proofs.Laws.Tests.{by-bool, split}

@@ -4,7 +4,7 @@
 use Prim.Native.Nat.{ℕ, _+_, _*_, _≤_, _<_}
 use mathlib.Core.Path.{_≡_}
 use mathlib.Core.List.{List}
-use lib.ListN.{length, take}
+use lib.ListN.{take}
 use Rattle.base.specs.Limits.{MOST-CLASSES}
 use Rattle.base.specs.Put.{put}
 use Rattle.class_records.specs.Records.{records}

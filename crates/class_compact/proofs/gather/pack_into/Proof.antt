@@ -3,7 +3,6 @@ use Prim.Native.Nat.{_-_}
 use Rattle.class_compact.proofs.Loops.Gathering.{Gathering, gathering-start, gathering-length, gathering-placed, gathering-more, gathered-records, gathered-letters, gathered-number}
 use Rattle.class_compact.proofs.Loops.Laying.{laying-length, laying-room}
 use borrow.Author.Needs.{needs}
-use native.Mathlib.Omega.{arith}
 use Rattle.class_compact.proofs.gather.pack_into.Statement.{statement}
 use Rattle.class_compact.proofs.gather.pack_into.Tie as tie
 
