@@ -2,6 +2,7 @@
 use Prim.Native.Nat.{_*_}
 use Rattle.base.specs.Limits.{MOST-CLASSES}
 use Rattle.class_compact.specs.Form.{COMPACT-RECORD, LETTERS-RECORD}
+use Rattle.class_compact.proofs.Laws.Links.{zeros-length}
 use Rattle.class_compact.proofs.Laws.Calls.{letters-few, room-fits, records-front, letters-front}
 use Rattle.class_records.proofs.Laws.Records.{table-number}
 use borrow.Author.Needs.{needs}
@@ -9,6 +10,12 @@ use lib.ListN.{length-take}
 use native.Mathlib.Omega.{arith}
 use Rattle.class_compact.proofs.pack_good.Statement.{statement}
 use Rattle.class_compact.proofs.pack_good.Tie as tie
+
+slice-aggregate-pack-into : tie.Need-slice-aggregate-pack-into
+slice-aggregate-pack-into c = zeros-length (MOST-CLASSES * COMPACT-RECORD)
+
+slice-aggregate-pack-into-2 : tie.Need-slice-aggregate-pack-into-2
+slice-aggregate-pack-into-2 c = zeros-length (MOST-CLASSES * LETTERS-RECORD)
 
 pack-into-requires : tie.Need-pack-into-requires
 pack-into-requires c κs =
@@ -18,7 +25,7 @@ pack-into-requires c κs =
 array-share-prefix-packed : tie.Need-array-share-prefix-packed
 array-share-prefix-packed c =
     let few = table-number _ (c .before .before .before .before .before .before .before .before .pre) in
-    search needs
+    omega (arith, few)
 
 slice-aggregate-put-out : tie.Need-slice-aggregate-put-out
 slice-aggregate-put-out c =
@@ -34,7 +41,7 @@ mul-used c =
 array-share-prefix-used : tie.Need-array-share-prefix-used
 array-share-prefix-used c =
     let few = letters-few _ _ (c .before .before .before .before .before .before .before .before .before .pre) (c .before .before .before .pack-into .ensures .0) in
-    search needs
+    omega (arith, few)
 
 slice-aggregate-put-out-2 : tie.Need-slice-aggregate-put-out-2
 slice-aggregate-put-out-2 c =
@@ -56,8 +63,8 @@ pub pack-good-spec : {M : Type 1} → statement M
 pack-good-spec =
     tie.close
     (tie.spec
-    (λ c. search needs)
-    (λ c. search needs)
+    slice-aggregate-pack-into
+    slice-aggregate-pack-into-2
     pack-into-requires
     (λ c. search needs)
     array-share-prefix-packed
