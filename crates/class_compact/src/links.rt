@@ -29,7 +29,8 @@ fn mark_for(base: u32, lower: u32) -> usize
     spread as usize % MARKS
 }
 
-// The slot where these letters have their place if they are among the first `count`, and that is to be given theirs if they are not.
+// The slot where these letters have their place if they are among the first `count`, and that is to be given theirs if they are not. `count` stands here
+// for the contract alone.
 pub fn slot_for(letters: &[u8], count: usize, base: u32, lower: u32, links: &[u16; LINKS]) -> usize
     requires { ⌜ Linked (now letters) count (now links) ⌝ }
     ensures { λ r. ⌜ Slot (now (letters .entry)) count base lower (now (links .entry)) r ⌝ }

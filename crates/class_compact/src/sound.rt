@@ -12,7 +12,7 @@ use crate::form::lower_at;
 use crate::links::LINKS;
 use crate::links::slot_for;
 
-// Whether the letters k are not (0, 0) and no repeat; where they are not, they are noted.
+// Whether the letters k are not (0, 0) and no repeat of any before; letters of which that holds are noted.
 fn is_own(letters: &[u8], k: usize, links: &mut [u16; LINKS]) -> bool
     requires { ⌜ (k < lettersIn (now letters)) × (k < MOST-CLASSES) × Linked (now letters) k (now links) ⌝ }
     ensures { λ r. ⌜ inner.Own (now (letters .entry)) k r (now (links .exit)) ⌝ }
