@@ -1,10 +1,11 @@
+pub mod Among
 pub mod Back
 pub mod Bytes
 pub mod Calls
 pub mod FirstUse
 pub mod Firsts
 pub mod Form
-pub mod Marked
+pub mod Links
 pub mod Numbering
 pub mod Own
 pub mod Packed

@@ -15,9 +15,21 @@ COMPACT-RECORD = 16
 abbrev pub SHARED-BYTES : ℕ
 SHARED-BYTES = 14
 
+-- bytes of the place
+abbrev pub PLACE-BYTES : ℕ
+PLACE-BYTES = 2
+
 -- bytes of a record of letters
 abbrev pub LETTERS-RECORD : ℕ
 LETTERS-RECORD = 8
+
+-- where the lower-case letter stands in it, the base at its front
+abbrev pub LOWER-AT : ℕ
+LOWER-AT = 4
+
+-- where base and lower stand in a record of 24 bytes
+abbrev pub LETTERS-AT : ℕ
+LETTERS-AT = 16
 
 -- how many compact records there are
 abbrev pub compactRecords : List ℕ → ℕ
@@ -36,7 +48,7 @@ unfoldable pub baseAt : List ℕ → ℕ → ℕ
 baseAt l k = le32 l (k * LETTERS-RECORD)
 
 unfoldable pub lowerAt : List ℕ → ℕ → ℕ
-lowerAt l k = le32 l (k * LETTERS-RECORD + 4)
+lowerAt l k = le32 l (k * LETTERS-RECORD + LOWER-AT)
 
 -- a list of bytes, as every lent one is: each element is below 256
 abbrev pub Bytes : List ℕ → Type 0

@@ -1,4 +1,4 @@
 pub mod Form
 pub mod Gathered
-pub mod Marked
+pub mod Links
 pub mod Sound

@@ -9,7 +9,7 @@ use Rattle.base.specs.First.{first}
 use Rattle.base.specs.Limits.{CLASS-RECORD}
 use Rattle.class_records.specs.Records.{records, recordAt}
 use Rattle.ring.specs.Record.{leBytes}
-use Rattle.class_compact.specs.Form.{SHARED-BYTES, LETTERS-RECORD, lettersIn, bytesFrom, joined}
+use Rattle.class_compact.specs.Form.{SHARED-BYTES, PLACE-BYTES, LETTERS-RECORD, LETTERS-AT, lettersIn, bytesFrom, joined}
 
 module _ (t : List ℕ) where
   -- the record i has neither base nor lower: (0, 0)
@@ -30,7 +30,7 @@ module _ (t : List ℕ) where
 
   -- the bytes of base and lower, where they are used first
   unfoldable pub newLetters : ℕ → List ℕ
-  newLetters i = cond (isNew i) (bytesFrom t (i * CLASS-RECORD + 16) LETTERS-RECORD) []
+  newLetters i = cond (isNew i) (bytesFrom t (i * CLASS-RECORD + LETTERS-AT) LETTERS-RECORD) []
 
   -- the letters that the records before i use, "in order of first use, none twice and none (0, 0)"
   unfoldable pub lettersBefore : ℕ → List ℕ
@@ -42,7 +42,7 @@ module _ (t : List ℕ) where
 
   -- the 16 bytes of the record i
   unfoldable pub compacted : ℕ → List ℕ
-  compacted i = bytesFrom t (i * CLASS-RECORD) SHARED-BYTES ++ leBytes 2 (packedPlace i)
+  compacted i = bytesFrom t (i * CLASS-RECORD) SHARED-BYTES ++ leBytes PLACE-BYTES (packedPlace i)
 
   unfoldable pub packedRecords : List ℕ
   packedRecords = joined compacted (records t)

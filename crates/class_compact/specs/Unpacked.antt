@@ -3,7 +3,7 @@
 -- Assumes nothing.
 use Prim.Native.Nat.{ℕ, _-_, _*_}
 use mathlib.Core.Bool.{cond}
-use mathlib.Core.List.{List, [], _∷_, _++_}
+use mathlib.Core.List.{List, _∷_, _++_}
 use lib.ListN.{replicate}
 use Rattle.base.specs.Tests.{within}
 use Rattle.class_compact.specs.Form.{COMPACT-RECORD, SHARED-BYTES, LETTERS-RECORD, compactRecords, lettersIn, placeAt, bytesFrom, joined}

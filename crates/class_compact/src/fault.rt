@@ -114,12 +114,13 @@ fn fault(records: &[u8], letters: &[u8], table: &[u8]) -> Cause
     Cause::Allowed
 }
 
-// The same, but for what the check of the expansion finds: a caller that has the expansion checked need not have it checked twice.
-pub fn beyond_table(records: &[u8], letters: &[u8], table: &[u8]) -> Cause
-    requires { ⌜ Filled (now records) (now letters) (now table) ⌝ }
+// The same, but for what the check of the expansion finds: a caller that has the expansion checked need not have it checked twice. `ordered` is what
+// `unpack_into` answered.
+pub fn beyond_table(records: &[u8], letters: &[u8], table: &[u8], ordered: bool) -> Cause
+    requires { ⌜ inner.Expanded (now records) (now letters) (now table) ordered ⌝ }
     ensures { λ r. ⌜ r ≡ inner.beyondTable (now (records .entry)) (now (letters .entry)) ⌝ }
 {
-    if is_sound(records, letters) {
+    if is_sound(records, letters, ordered) {
         return Cause::Allowed;
     }
     fault(records, letters, table)

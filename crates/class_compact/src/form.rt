@@ -6,7 +6,7 @@ ghost use Rattle.base.specs.First.{first};
 ghost use Rattle.base.specs.Put.{put};
 ghost use Rattle.class_compact.specs.Form as form;
 ghost use Rattle.class_compact.specs.Check.{lettersAre};
-ghost use Rattle.class_compact.specs.Inner.Form.{Place, Mark, markOf};
+ghost use Rattle.class_compact.specs.Inner.Form.{Place};
 use crate::COMPACT_RECORD;
 use crate::LETTERS_RECORD;
 use base::u32_at;
@@ -14,16 +14,8 @@ use base::u32_at;
 // Where range and place stand in a compact record, the halves of one word.
 const RANGE_AT: usize = 12;
 
-// What the high half of a word is counted in.
-const HALF: u32 = 65536;
-
-// How many marks there are: some for each of the letters of a full table, so that few share one.
-pub const MARKS: usize = 32768;
-
-// What spreads the bases over the marks, and the letters above U+FFFF: of tables/compact no two letters share a mark.
-const SPREAD: u32 = 127;
-
-const HIGH_SPREAD: u32 = 16381;
+// What the upper half of a word is counted in.
+pub const HALF: u32 = 65536;
 
 // Where the lower-case letter stands in a record of letters, the base at its front.
 const LOWER_AT: usize = 4;
@@ -48,14 +40,6 @@ pub fn lower_at(letters: &[u8], k: usize) -> u32
     ensures { λ r. ⌜ r ≡ form.lowerAt (now (letters .entry)) k ⌝ }
 {
     u32_at(letters, k * LETTERS_RECORD + LOWER_AT)
-}
-
-// A number that the same letters share, and others seldom.
-pub fn mark_for(base: u32, lower: u32) -> usize
-    ensures { λ r. ⌜ Mark (markOf base lower) r ⌝ }
-{
-    let spread = base % HALF * SPREAD + (lower % HALF + lower / HALF * HIGH_SPREAD);
-    spread as usize % MARKS
 }
 
 // The first of the letters before `end` that are these, or `end`.

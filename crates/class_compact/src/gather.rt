@@ -6,23 +6,22 @@ ghost use Rattle.base.specs.Limits.{MOST-CLASSES};
 ghost use Rattle.base.specs.Put.{put};
 ghost use Rattle.class_records.specs.Records as records;
 ghost use Rattle.class_compact.specs.Form as form;
-ghost use Rattle.class_compact.specs.Packed.{compacted, packedPlace, packedRecords, packedLetters, lettersBefore};
-ghost use Rattle.class_compact.specs.Inner.Form.{Mark};
-ghost use Rattle.class_compact.specs.Inner.Gathered.{Placed, Unmet, recordMark};
+ghost use Rattle.class_compact.specs.Packed.{compacted, packedPlace, packedRecords, packedLetters};
+ghost use Rattle.class_compact.specs.Inner.Form.{HALF};
+ghost use Rattle.class_compact.specs.Inner.Gathered.{Placed, Among, Gathered};
 use crate::COMPACT_RECORD;
 use crate::LETTERS_RECORD;
 use crate::SHARED_BYTES;
 use crate::expand::LETTERS_AT;
-use crate::form::MARKS;
-use crate::form::find_letters;
 use crate::form::lay;
-use crate::form::mark_for;
+use crate::links::LINKS;
+use crate::links::slot_for;
 use base::limits::CLASS_RECORD;
 use class_records::record_at;
 
 // The record i with the place of its letters.
 fn compact_record(classes: &[u8], i: usize, place: usize) -> [u8; COMPACT_RECORD]
-    requires { ⌜ (i < records.records (now classes)) × (place < 65536) × (place ≡ packedPlace (now classes) i) ⌝ }
+    requires { ⌜ (i < records.records (now classes)) × (place < HALF) × (place ≡ packedPlace (now classes) i) ⌝ }
     ensures { λ r. ⌜ r ≡ compacted (now (classes .entry)) i ⌝ }
 {
     let from = i * CLASS_RECORD;
@@ -33,28 +32,57 @@ fn compact_record(classes: &[u8], i: usize, place: usize) -> [u8; COMPACT_RECORD
     record
 }
 
-fn record_mark(classes: &[u8], i: usize) -> usize
-    requires { ⌜ i < records.records (now classes) ⌝ }
-    ensures { λ r. ⌜ Mark (recordMark (now (classes .entry)) i) r ⌝ }
-{
-    let r = record_at(classes, i);
-    mark_for(r.base, r.lower)
-}
-
 // The place of the letters of the record i: 0 where it has none, that of the same letters where an earlier record has them, and the next behind the
-// `count` that there are where none has. Where no record before has the mark of its letters (`met` is false), none has them, and they are not looked for.
-fn place_among(classes: &[u8], i: usize, used: &[u8], count: usize, met: bool) -> usize
-    requires { ⌜ Placed (now classes) i (now used) count × Unmet (now classes) i met ⌝ }
-    ensures { λ r. ⌜ (r ≡ packedPlace (now (classes .entry)) i) × (r ≤ count + 1) ⌝ }
+// `count` that there are where none has, which is then noted.
+fn place_among(
+    classes: &[u8],
+    i: usize,
+    used: &[u8],
+    count: usize,
+    links: &mut [u16; LINKS],
+) -> usize
+    requires { ⌜ Placed (now classes) i (now used) count (now links) ⌝ }
+    ensures { λ r. ⌜ Among (now (classes .entry)) i count r (now (links .exit)) ⌝ }
 {
     let r = record_at(classes, i);
     if (r.base == 0) & (r.lower == 0) {
         return 0;
     }
-    if !met {
-        return count + 1;
+    let slot = slot_for(used, count, r.base, r.lower, links);
+    let place = links[slot] as usize;
+    if place != 0 {
+        return place;
     }
-    find_letters(used, count, r.base, r.lower) + 1
+    links[slot] = (count + 1) as u16;
+    count + 1
+}
+
+// Puts the compact record i into its place in one room, and its letters, where no record before has them, behind the others in the other; answers how
+// many letters there are then.
+fn gather_record(
+    classes: &[u8],
+    i: usize,
+    packed: &mut [u8],
+    used: &mut [u8],
+    count: usize,
+    links: &mut [u16; LINKS],
+) -> usize
+    requires { ⌜ Placed (now classes) i (now used) count (now links) × (i * form.COMPACT-RECORD + form.COMPACT-RECORD ≤ length (now packed)) ⌝ }
+    ensures { λ r. ⌜ Gathered (now (classes .entry)) i (now (packed .entry)) (now (used .entry)) count (now (packed .exit)) (now (used .exit)) r (now (links .exit)) ⌝ }
+{
+    let place = place_among(classes, i, used, count, links);
+    let record = compact_record(classes, i, place);
+    lay(&record, packed, i * COMPACT_RECORD);
+    if place <= count {
+        return count;
+    }
+    let from = i * CLASS_RECORD + LETTERS_AT;
+    lay(
+        &classes[from..from + LETTERS_RECORD],
+        used,
+        count * LETTERS_RECORD,
+    );
+    place
 }
 
 // Puts the compact records and the letters into the first places of two rooms; answers how many letters there are.
@@ -65,27 +93,12 @@ pub fn pack_into(classes: &[u8], packed: &mut [u8], used: &mut [u8]) -> usize
     ensures { λ _. ⌜ now (used .exit) ≡ put (now (used .entry)) 0 (packedLetters (now (classes .entry))) ⌝ }
 {
     let n = classes.len() / CLASS_RECORD;
-    let mut marks = [false; MARKS];
+    let mut links = [0u16; LINKS];
     let mut count = 0;
     let mut i = 0;
     while i < n {
-        let mark = record_mark(classes, i);
-        let place = place_among(classes, i, used, count, marks[mark]);
-        marks[mark] = true;
-        let record = compact_record(classes, i, place);
-        lay(&record, packed, i * COMPACT_RECORD);
-        if count < place {
-            let from = i * CLASS_RECORD + LETTERS_AT;
-            lay(
-                &classes[from..from + LETTERS_RECORD],
-                used,
-                count * LETTERS_RECORD,
-            );
-            count += 1;
-            i += 1;
-        } else {
-            i += 1;
-        }
+        count = gather_record(classes, i, packed, used, count, &mut links);
+        i += 1;
     }
     count
 }

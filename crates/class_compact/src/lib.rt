@@ -9,7 +9,8 @@ ghost use Rattle.class_records.specs.Records.{goodTable};
 ghost use Rattle.class_compact.specs.Check.{badCompact};
 ghost use Rattle.class_compact.specs.Packed.{packedRecords, packedLetters};
 ghost use Rattle.class_compact.specs.Calls as calls;
-ghost use Rattle.class_compact.specs.Inner.Form.{Filled, Sized, wrongList};
+ghost use Rattle.class_compact.specs.Inner.Form.{Sized, wrongList};
+ghost use Rattle.class_compact.specs.Inner.Sound.{Expanded};
 use base::Cause;
 use base::Counted;
 use base::Refusal;
@@ -28,6 +29,7 @@ pub mod expand;
 pub mod fault;
 mod form;
 mod gather;
+mod links;
 mod sound;
 
 // Bytes of a compact record.
@@ -67,11 +69,11 @@ pub fn wrong_list(records: &[u8]) -> bool
 }
 
 // Why a compact table is not good, if it is not, with its expansion lent.
-fn bad_filled(records: &[u8], letters: &[u8], table: &[u8]) -> Cause
-    requires { ⌜ Filled (now records) (now letters) (now table) ⌝ }
+fn bad_filled(records: &[u8], letters: &[u8], table: &[u8], ordered: bool) -> Cause
+    requires { ⌜ Expanded (now records) (now letters) (now table) ordered ⌝ }
     ensures { λ r. ⌜ r ≡ badCompact (now (records .entry)) (now (letters .entry)) ⌝ }
 {
-    match beyond_table(records, letters, table) {
+    match beyond_table(records, letters, table, ordered) {
         Cause::Refused(why) => Cause::Refused(why),
         Cause::Allowed => classes::bad_classes(table),
     }
@@ -83,11 +85,12 @@ fn bad_expanded(records: &[u8], letters: &[u8]) -> Cause
     ensures { λ r. ⌜ r ≡ badCompact (now (records .entry)) (now (letters .entry)) ⌝ }
 {
     let mut room = [0u8; EXPANSION_ROOM];
-    unpack_into(records, letters, &mut room);
+    let ordered = unpack_into(records, letters, &mut room);
     bad_filled(
         records,
         letters,
         &room[..records.len() / COMPACT_RECORD * CLASS_RECORD],
+        ordered,
     )
 }
 

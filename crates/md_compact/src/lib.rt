@@ -1,7 +1,8 @@
 // Scoring with a class table in the compact form. It is expanded once a call, in a room of EXPANSION_ROOM bytes, and then scored as the expansion is: that
 // checks the records, so that here only the letters are checked.
 ghost use mathlib.Core.Path.{_≡_};
-ghost use Rattle.class_compact.specs.Inner.Form.{Filled, Sized};
+ghost use Rattle.class_compact.specs.Inner.Form.{Sized};
+ghost use Rattle.class_compact.specs.Inner.Sound.{Expanded};
 ghost use Rattle.md_compact.specs.Scoring.{messRatioCompact, messRatioCompactDefault};
 use base::Cause;
 use base::Refusal;
@@ -28,12 +29,13 @@ fn score_table(
     records: &[u8],
     letters: &[u8],
     table: &[u8],
+    ordered: bool,
     pairs: &[u8],
 ) -> Scored
-    requires { ⌜ Filled (now records) (now letters) (now table) ⌝ }
+    requires { ⌜ Expanded (now records) (now letters) (now table) ordered ⌝ }
     ensures { λ r. ⌜ r ≡ messRatioCompact (now (records .entry)) (now (letters .entry)) (now (pairs .entry)) (now (text .entry)) threshold ⌝ }
 {
-    match beyond_table(records, letters, table) {
+    match beyond_table(records, letters, table, ordered) {
         Cause::Refused(why) => Scored::Refused(first_of_text(text, threshold, why)),
         Cause::Allowed => mess_ratio(text, threshold, table, pairs),
     }
@@ -51,7 +53,7 @@ fn score_expanded(
     ensures { λ r. ⌜ r ≡ messRatioCompact (now (records .entry)) (now (letters .entry)) (now (pairs .entry)) (now (text .entry)) threshold ⌝ }
 {
     let mut room = [0u8; EXPANSION_ROOM];
-    unpack_into(records, letters, &mut room);
+    let ordered = unpack_into(records, letters, &mut room);
     let n = records.len() / COMPACT_RECORD;
     score_table(
         text,
@@ -59,6 +61,7 @@ fn score_expanded(
         records,
         letters,
         &room[..n * CLASS_RECORD],
+        ordered,
         pairs,
     )
 }

@@ -1,7 +1,8 @@
 // Many lines in one call, with a compact class table that is expanded once for all of them.
 ghost use mathlib.Core.Path.{_≡_};
 ghost use lib.ListN.{length};
-ghost use Rattle.class_compact.specs.Inner.Form.{Filled, Sized};
+ghost use Rattle.class_compact.specs.Inner.Form.{Sized};
+ghost use Rattle.class_compact.specs.Inner.Sound.{Expanded};
 ghost use Rattle.md_compact.specs.Lines as lines;
 use crate::first::first_of_burst;
 use base::Cause;
@@ -22,14 +23,15 @@ fn score_lines_table(
     records: &[u8],
     letters: &[u8],
     table: &[u8],
+    ordered: bool,
     pairs: &[u8],
     out: &mut [u32],
 ) -> Counted
-    requires { ⌜ Filled (now records) (now letters) (now table) ⌝ }
+    requires { ⌜ Expanded (now records) (now letters) (now table) ordered ⌝ }
     ensures { λ r. ⌜ r ≡ lines.linesAnswer (now (bytes .entry)) threshold (now (records .entry)) (now (letters .entry)) (now (pairs .entry)) (length (now (out .entry))) ⌝ }
     ensures { λ _. ⌜ now (out .exit) ≡ lines.linesAfter (now (bytes .entry)) threshold (now (records .entry)) (now (letters .entry)) (now (pairs .entry)) (now (out .entry)) ⌝ }
 {
-    match beyond_table(records, letters, table) {
+    match beyond_table(records, letters, table, ordered) {
         Cause::Refused(why) => Counted::Refused(first_of_burst(bytes, threshold, why)),
         Cause::Allowed => score_lines(bytes, threshold, table, pairs, out),
     }
@@ -48,7 +50,7 @@ fn score_lines_expanded(
     ensures { λ _. ⌜ now (out .exit) ≡ lines.linesAfter (now (bytes .entry)) threshold (now (records .entry)) (now (letters .entry)) (now (pairs .entry)) (now (out .entry)) ⌝ }
 {
     let mut room = [0u8; EXPANSION_ROOM];
-    unpack_into(records, letters, &mut room);
+    let ordered = unpack_into(records, letters, &mut room);
     let n = records.len() / COMPACT_RECORD;
     score_lines_table(
         bytes,
@@ -56,6 +58,7 @@ fn score_lines_expanded(
         records,
         letters,
         &room[..n * CLASS_RECORD],
+        ordered,
         pairs,
         out,
     )

@@ -1,6 +1,7 @@
 // The same of UTF-8 bytes.
 ghost use mathlib.Core.Path.{_≡_};
-ghost use Rattle.class_compact.specs.Inner.Form.{Filled, Sized};
+ghost use Rattle.class_compact.specs.Inner.Form.{Sized};
+ghost use Rattle.class_compact.specs.Inner.Sound.{Expanded};
 ghost use Rattle.md_compact.specs.Scoring.{messRatioUtf8Compact, messRatioUtf8CompactDefault};
 use crate::first::first_of_bytes;
 use base::Cause;
@@ -22,12 +23,13 @@ fn score_utf8_table(
     records: &[u8],
     letters: &[u8],
     table: &[u8],
+    ordered: bool,
     pairs: &[u8],
 ) -> Scored
-    requires { ⌜ Filled (now records) (now letters) (now table) ⌝ }
+    requires { ⌜ Expanded (now records) (now letters) (now table) ordered ⌝ }
     ensures { λ r. ⌜ r ≡ messRatioUtf8Compact (now (records .entry)) (now (letters .entry)) (now (pairs .entry)) (now (bytes .entry)) threshold ⌝ }
 {
-    match beyond_table(records, letters, table) {
+    match beyond_table(records, letters, table, ordered) {
         Cause::Refused(why) => Scored::Refused(first_of_bytes(bytes, threshold, why)),
         Cause::Allowed => mess_ratio_utf8(bytes, threshold, table, pairs),
     }
@@ -44,7 +46,7 @@ fn score_utf8_expanded(
     ensures { λ r. ⌜ r ≡ messRatioUtf8Compact (now (records .entry)) (now (letters .entry)) (now (pairs .entry)) (now (bytes .entry)) threshold ⌝ }
 {
     let mut room = [0u8; EXPANSION_ROOM];
-    unpack_into(records, letters, &mut room);
+    let ordered = unpack_into(records, letters, &mut room);
     let n = records.len() / COMPACT_RECORD;
     score_utf8_table(
         bytes,
@@ -52,6 +54,7 @@ fn score_utf8_expanded(
         records,
         letters,
         &room[..n * CLASS_RECORD],
+        ordered,
         pairs,
     )
 }

@@ -2,7 +2,7 @@
 -- (`packed-unpacked`); and a good compact table's expansion is a good table, which packs to the same records and letters (`unpacked-packed`). Of lists of
 -- bytes, as every lent one is.
 -- Assumes nothing.
-use Prim.Native.Nat.{ℕ, _%_, _≤_}
+use Prim.Native.Nat.{ℕ, _%_}
 use mathlib.Core.Path.{_≡_}
 use mathlib.Core.Bool.{true, not}
 use mathlib.Core.List.{List}

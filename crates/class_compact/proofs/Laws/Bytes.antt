@@ -1,14 +1,15 @@
 -- Numbers and their bytes, in lists of bytes (`Bytes`): the same numbers are the same bytes, and a number of two bytes is written back as it was read.
 -- Assumes nothing.
 use Prim.Native.Nat.{ℕ, zero, suc, _+_, _*_, _/_, _%_, _<_}
-use mathlib.Core.Path.{_≡_, refl, sym, ap, _∙_}
-use mathlib.Core.List.{List, [], _∷_, _++_}
+use mathlib.Core.Path.{_≡_, sym, _∙_}
+use mathlib.Core.List.{List, [], _∷_}
 use native.Mathlib.Nat.{add-zero}
 use native.Mathlib.Omega.{arith}
 use lib.ListN.{getD, replicate}
 use Rattle.base.specs.LittleEndian.{le16, le32}
 use Rattle.ring.specs.Record.{leBytes}
 use Rattle.class_compact.specs.Form.{Bytes, bytesFrom}
+use Rattle.class_compact.specs.Inner.Form.{HALF}
 use Rattle.class_compact.proofs.Laws.Form.{bytes-same, bytes-split}
 
 four : (a b c d x y z w : ℕ) → a < 256 → b < 256 → c < 256 → d < 256 → x < 256 → y < 256 → z < 256 → w < 256
@@ -62,5 +63,5 @@ half-back t p at = rw (low (getD t at 0) (getD t (at + 1) 0) (p at), high (getD 
     high a b h k = omega arith
 
 -- a number of 16 bits from its two bytes
-pub half-read : (v : ℕ) → v < 65536 → v % 256 + 256 * (v / 256 % 256) ≡ v
+pub half-read : (v : ℕ) → v < HALF → v % 256 + 256 * (v / 256 % 256) ≡ v
 half-read v h = omega arith

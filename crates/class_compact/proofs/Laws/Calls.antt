@@ -1,8 +1,8 @@
 -- The returns of the calls, one by one: of the quick test, of the search for a fault, of the check, of unpacking and of packing.
 -- Assumes nothing.
-use Prim.Native.Nat.{ℕ, _+_, _*_, _%_, _≤_, _<_}
-use mathlib.Core.Path.{_≡_, refl, sym, ap, _∙_}
-use mathlib.Core.Bool.{Bool, true, false, not, _&&_, _||_}
+use Prim.Native.Nat.{ℕ, _*_, _%_, _≤_, _<_}
+use mathlib.Core.Path.{_≡_, sym, ap, _∙_}
+use mathlib.Core.Bool.{true, false, not, _||_}
 use mathlib.Core.List.{List, [], _∷_}
 use native.Mathlib.Omega.{arith}
 use lib.ListN.{length, take}
@@ -13,7 +13,7 @@ use Rattle.base.specs.declared.Cause.{Cause}
 use Rattle.base.specs.declared.Cause.the-variants.{Allowed, Refused}
 use Rattle.base.specs.declared.Counted.the-variants.{Count, Refused as NotCounted}
 use Rattle.base.specs.Causes.{refusedAt, given, firstOf}
-use Rattle.base.specs.Counted.{countUnless, lentAfter}
+use Rattle.base.specs.Counted.{countUnless}
 use Rattle.base.specs.Limits.{CLASS-RECORD, MOST-CLASSES}
 use Rattle.base.specs.Put.{put}
 use Rattle.base.specs.Refusals.{BAD-CLASSES, NO-ROOM}
@@ -30,8 +30,9 @@ use Rattle.class_compact.specs.Unpacked.{unpacked}
 use Rattle.class_compact.specs.Check.{firstBadRecord, firstBadLetters, badCompactLength, badCompactNumber, badCompactRecord, badLettersLength, badLettersRecord, badCompact}
 use Rattle.class_compact.specs.Packed.{compacted, packedRecords, packedLetters}
 use Rattle.class_compact.specs.Calls.{unpackCauses, unpackAnswer, unpackAfter, packCauses, packedUnless, packAnswer, recordsAfter, lettersAfter}
-use Rattle.class_compact.specs.Inner.Form.{Sized, Filled}
+use Rattle.class_compact.specs.Inner.Form.{Sized}
 use Rattle.class_compact.specs.Inner.Sound.{inFirstUse, allOwn, sound, beyondTable}
+use Rattle.class_compact.proofs.Laws.Links.{zeros, zeros-length}
 use Rattle.class_compact.proofs.Laws.Firsts.{or-no-l, or-no-r}
 use Rattle.class_compact.proofs.Laws.Form.{joined-length}
 use Rattle.class_compact.proofs.Laws.Numbering.{before-length, number-few}
@@ -100,10 +101,14 @@ module _ (c l : List ℕ) (s : Sized c) where
       ap badClasses t ∙ sym (first-one (badClasses (unpacked c l))) ∙ sym (first-on _ (beyondTable c l) e) ∙ beyond-then c l s [] ∙ first-one (badCompact c l)
 
 -- the front of a room into which the expansion was put
-pub expansion-front : (c l old room : List ℕ) → compactRecords c * CLASS-RECORD ≤ length old → room ≡ put old 0 (unpacked c l)
+-- a room of zeros is as long as it was made. This and what follows is said of any length: of a number that stands there the zeros are counted one by one
+pub room-fits : (n k : ℕ) → k ≤ n → k ≤ length (zeros n)
+room-fits n k h = rw (zeros-length n) h
+
+pub expansion-front : (c l : List ℕ) (n : ℕ) (room : List ℕ) → compactRecords c * CLASS-RECORD ≤ n → room ≡ put (zeros n) 0 (unpacked c l)
     → take (compactRecords c * CLASS-RECORD) room ≡ unpacked c l
-expansion-front c l old room h e =
-    rw (e, ← unpacked-length c l) (put-part old 0 (unpacked c l) (omega (arith, unpacked-length c l)))
+expansion-front c l n room h e =
+    rw (e, ← unpacked-length c l) (put-part (zeros n) 0 (unpacked c l) (omega (arith, unpacked-length c l, zeros-length n)))
 
 pub allowed-few : (c l : List ℕ) → badCompact c l ≡ Allowed → compactRecords c ≤ MOST-CLASSES
 unfolding badCompact badCompactNumber
@@ -158,15 +163,16 @@ unfolding packedLetters
 letters-few t count g e = omega (arith, number-few t (records t), table-number t g, e)
 
 -- the fronts of two rooms into which a table was packed
-pub records-front : (t old room : List ℕ) → records t * COMPACT-RECORD ≤ length old → room ≡ put old 0 (packedRecords t)
+pub records-front : (t : List ℕ) (n : ℕ) (room : List ℕ) → records t * COMPACT-RECORD ≤ n → room ≡ put (zeros n) 0 (packedRecords t)
     → take (records t * COMPACT-RECORD) room ≡ packedRecords t
-records-front t old room h e = rw (e, ← records-length t) (put-part old 0 (packedRecords t) (omega (arith, records-length t)))
+records-front t n room h e =
+    rw (e, ← records-length t) (put-part (zeros n) 0 (packedRecords t) (omega (arith, records-length t, zeros-length n)))
 
-pub letters-front : (t old room : List ℕ) (count : ℕ) → count ≡ lettersIn (packedLetters t) → count * LETTERS-RECORD ≤ length old
-    → room ≡ put old 0 (packedLetters t) → take (count * LETTERS-RECORD) room ≡ packedLetters t
-letters-front t old room count n h e =
-    let z : count * LETTERS-RECORD ≡ length (packedLetters t) = ap (λ (x : ℕ). x * LETTERS-RECORD) n ∙ sym (letters-length t) in
-    rw (e, z) (put-part old 0 (packedLetters t) (omega (arith, z)))
+pub letters-front : (t : List ℕ) (n : ℕ) (room : List ℕ) (count : ℕ) → count ≡ lettersIn (packedLetters t) → count * LETTERS-RECORD ≤ n
+    → room ≡ put (zeros n) 0 (packedLetters t) → take (count * LETTERS-RECORD) room ≡ packedLetters t
+letters-front t n room count m h e =
+    let z : count * LETTERS-RECORD ≡ length (packedLetters t) = ap (λ (x : ℕ). x * LETTERS-RECORD) m ∙ sym (letters-length t) in
+    rw (e, z) (put-part (zeros n) 0 (packedLetters t) (omega (arith, z, zeros-length n)))
 
 module _ (t rs ls : List ℕ) where
   pub pack-bad : (r : Refusal) → badClasses t ≡ Refused r

@@ -2,20 +2,19 @@
 -- one past the largest before it, and the largest of all is their number (Inner.Sound). The one follows from the other (`used-in-order`, `order-used`).
 -- Assumes nothing.
 use Prim.Native.Nat.{ℕ, zero, suc, _+_, _-_, _≤_, _<_}
-use mathlib.Core.Path.{_≡_, refl, sym, ap, _∙_}
-use mathlib.Core.Bool.{Bool, true, false, cond, _&&_}
+use mathlib.Core.Path.{_≡_, sym, ap}
+use mathlib.Core.Bool.{true, false}
 use mathlib.Core.List.{List}
-use native.Mathlib.Numerals.{add-one}
 use native.Mathlib.Omega.{arith}
 use lib.Dec.{eqb, leb, ltb}
 use borrow.Author.Tests.{eqb-true, eqb-false, eq-eqb, ne-eqb, leb-true, le-leb, ltb-true, ltb-false, lt-ltb, le-ltb}
 use Rattle.base.specs.First.{first, each}
-use Rattle.base.proofs.Laws.First.{first-found, first-before, first-within, each-at, each-all}
+use Rattle.base.proofs.Laws.First.{first-found, first-within, each-at, each-all}
 use Rattle.base.proofs.Laws.Tests.{by-bool, by-test, split, and-l, and-r, and-yes}
 use Rattle.class_compact.specs.Form.{compactRecords, placeAt}
 use Rattle.class_compact.specs.Check.{firstUse, unused, early}
 use Rattle.class_compact.specs.Inner.Sound.{seenBefore, nextOnly, inFirstUse}
-use Rattle.class_compact.proofs.Laws.Firsts.{clash, first-least}
+use Rattle.class_compact.proofs.Laws.Firsts.{first-least}
 
 module _ (c : List ℕ) where
   -- ---- the largest place before a record
@@ -37,6 +36,22 @@ module _ (c : List ℕ) where
       (λ l. let z : i ≡ j = omega arith in rw z (seen-step j .1))
 
   -- all are at most m
+  -- each record uses one more at most
+  seen-few : (i : ℕ) → each (nextOnly c) i ≡ true → seenBefore c i ≤ i
+  unfolding seenBefore each nextOnly
+  seen-few zero e = omega arith
+  seen-few (suc i) e =
+      let a = seen-few i (and-l (each (nextOnly c) i) (leb (placeAt c i) (seenBefore c i + 1)) e) in
+      let b = leb-true (placeAt c i) (seenBefore c i + 1) (and-r (each (nextOnly c) i) (leb (placeAt c i) (seenBefore c i + 1)) e) in
+      by-test (λ (m : ℕ). m ≤ suc i) (ltb (seenBefore c i) (placeAt c i)) (placeAt c i) (seenBefore c i) (λ h. omega arith) (λ h. omega arith)
+
+  pub use-few : (m : ℕ) → inFirstUse c m ≡ true → m ≤ compactRecords c
+  unfolding inFirstUse
+  use-few m h =
+      let a : seenBefore c (compactRecords c) ≤ compactRecords c = seen-few (compactRecords c) (and-l _ (eqb (seenBefore c (compactRecords c)) m) h) in
+      let b : seenBefore c (compactRecords c) ≡ m = eqb-true _ _ (and-r (each (nextOnly c) (compactRecords c)) _ h) in
+      omega arith
+
   pub seen-most : (m i : ℕ) → ((j : ℕ) → j < i → placeAt c j ≤ m) → seenBefore c i ≤ m
   unfolding seenBefore
   seen-most m zero h = omega arith

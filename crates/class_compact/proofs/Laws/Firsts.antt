@@ -7,7 +7,7 @@ use mathlib.Core.Bool.{Bool, true, false, _||_}
 use native.Mathlib.Omega.{arith}
 use Rattle.base.specs.First.{first}
 use Rattle.base.proofs.Laws.First.{first-is, first-none, first-before, first-found, first-within}
-use Rattle.base.proofs.Laws.Tests.{split, by-bool}
+use Rattle.base.proofs.Laws.Tests.{split}
 
 -- a test that holds and fails
 pub clash : {A : Type 0} {b : Bool} → b ≡ true → b ≡ false → A

@@ -4,27 +4,26 @@
 -- Assumes nothing.
 use Prim.Native.Nat.{ℕ, zero, suc, _+_, _-_, _*_, _/_, _≤_, _<_}
 use mathlib.Core.Path.{_≡_, refl, sym, ap, _∙_}
-use mathlib.Core.Bool.{Bool, true, false, cond, not, _&&_}
+use mathlib.Core.Bool.{Bool, true, false, not, _&&_}
 use mathlib.Core.List.{List, [], _∷_, _++_}
-use native.Mathlib.Nat.{add-zero, zero-add}
 use native.Mathlib.Numerals.{add-one}
 use native.Mathlib.Omega.{arith}
 use lib.ListN.{length, getD, take, length-append, List·getD-append}
 use lib.Seq.{getD-take, getD-append-add}
 use lib.Dec.{eqb}
-use borrow.Author.Tests.{eqb-true, eqb-false, eq-eqb, not-true, not-false}
+use borrow.Author.Tests.{eqb-true, eq-eqb, not-true}
 use Rattle.base.specs.First.{first}
 use Rattle.base.specs.Limits.{CLASS-RECORD}
 use Rattle.base.specs.LittleEndian.{le32}
-use Rattle.base.proofs.Laws.First.{first-is, first-none, first-before, first-found, first-within}
+use Rattle.base.proofs.Laws.First.{first-is, first-none, first-before, first-within}
 use Rattle.base.proofs.Laws.Tests.{by-bool, split, and-l, and-r, and-yes}
 use Rattle.class_records.specs.Records.{records, recordAt}
-use Rattle.class_compact.specs.Form.{LETTERS-RECORD, lettersIn, baseAt, lowerAt, bytesFrom, joined}
+use Rattle.class_compact.specs.Form.{LETTERS-RECORD, LETTERS-AT, lettersIn, baseAt, lowerAt, bytesFrom, joined}
 use Rattle.class_compact.specs.Check.{lettersAre}
 use Rattle.class_compact.specs.Packed.{plain, alike, firstAlike, isNew, newLetters, lettersBefore, packedPlace}
-use Rattle.class_compact.specs.Inner.Gathered.{Placed, Unmet}
+use Rattle.class_compact.specs.Inner.Gathered.{Placed}
 use Rattle.class_compact.proofs.Laws.Firsts.{clash, first-least, first-hits, first-same}
-use Rattle.class_compact.proofs.Laws.Form.{bytes-length, bytes-at, bytes-are, le32-same}
+use Rattle.class_compact.proofs.Laws.Form.{bytes-length, bytes-at, le32-same}
 
 -- equal numbers of two pairs of tests
 pub both : (a b x y : ℕ) → (eqb a x && eqb b y) ≡ true → (a ≡ x) × (b ≡ y)
@@ -88,13 +87,6 @@ module _ (t : List ℕ) where
     unfolding isNew
     first-new e = rw (plain-first, e) (eq-eqb _ _ first-own)
 
-    -- no record before has its letters: it is the first
-    pub first-alone : ((j : ℕ) → j < i → alike t i j ≡ false) → firstAlike t i ≡ i
-    first-alone e =
-        split (firstAlike t i) i
-        (λ a. clash alike-first (e (firstAlike t i) a))
-        (λ a. let z = alike-at in omega arith)
-
   pub new-own : (i : ℕ) → isNew t i ≡ true → firstAlike t i ≡ i
   unfolding isNew
   new-own i h = eqb-true _ _ (and-r (not (plain t i)) _ h)
@@ -104,16 +96,16 @@ module _ (t : List ℕ) where
   new-some i h = not-true _ (and-l _ (eqb (firstAlike t i) i) h)
 
   -- ---- how many letters there are before a record
-  before-more : (i : ℕ) → lettersBefore t (i + 1) ≡ lettersBefore t i ++ newLetters t i
+  pub before-more : (i : ℕ) → lettersBefore t (i + 1) ≡ lettersBefore t i ++ newLetters t i
   unfolding lettersBefore joined
   before-more i = rw (add-one i)
 
   module _ (i : ℕ) (e : isNew t i ≡ true) where
-    pub letters-new : newLetters t i ≡ bytesFrom t (i * CLASS-RECORD + 16) LETTERS-RECORD
+    pub letters-new : newLetters t i ≡ bytesFrom t (i * CLASS-RECORD + LETTERS-AT) LETTERS-RECORD
     unfolding newLetters
     letters-new = rw e
 
-    pub before-new : lettersBefore t (i + 1) ≡ lettersBefore t i ++ bytesFrom t (i * CLASS-RECORD + 16) LETTERS-RECORD
+    pub before-new : lettersBefore t (i + 1) ≡ lettersBefore t i ++ bytesFrom t (i * CLASS-RECORD + LETTERS-AT) LETTERS-RECORD
     before-new = before-more i ∙ rw letters-new
 
   pub before-old : (i : ℕ) → isNew t i ≡ false → lettersBefore t (i + 1) ≡ lettersBefore t i
@@ -126,7 +118,7 @@ module _ (t : List ℕ) where
   before-length zero = refl
   before-length (suc i) =
       by-bool (isNew t i)
-      (λ e. whole (lettersBefore t i) (newLetters t i) (before-length i) (ap length (letters-new i e) ∙ bytes-length t (i * CLASS-RECORD + 16) LETTERS-RECORD))
+      (λ e. whole (lettersBefore t i) (newLetters t i) (before-length i) (ap length (letters-new i e) ∙ bytes-length t (i * CLASS-RECORD + LETTERS-AT) LETTERS-RECORD))
       (λ e. let z : lettersBefore t (suc i) ≡ lettersBefore t i = ap (lettersBefore t) (sym (add-one i)) ∙ before-old i e in rw z (before-length i))
     where
       whole : (x y : List ℕ) → length x ≡ length x / LETTERS-RECORD * LETTERS-RECORD → length y ≡ LETTERS-RECORD
@@ -136,7 +128,7 @@ module _ (t : List ℕ) where
   pub number-new : (i : ℕ) → isNew t i ≡ true → lettersIn (lettersBefore t (i + 1)) ≡ lettersIn (lettersBefore t i) + 1
   number-new i e =
       rw (before-new i e)
-      (more (lettersBefore t i) (bytesFrom t (i * CLASS-RECORD + 16) LETTERS-RECORD) (before-length i) (bytes-length t (i * CLASS-RECORD + 16) LETTERS-RECORD))
+      (more (lettersBefore t i) (bytesFrom t (i * CLASS-RECORD + LETTERS-AT) LETTERS-RECORD) (before-length i) (bytes-length t (i * CLASS-RECORD + LETTERS-AT) LETTERS-RECORD))
     where
       more : (x y : List ℕ) → length x ≡ length x / LETTERS-RECORD * LETTERS-RECORD → length y ≡ LETTERS-RECORD
           → length (x ++ y) / LETTERS-RECORD ≡ length x / LETTERS-RECORD + 1
@@ -186,7 +178,7 @@ module _ (t : List ℕ) where
 
   -- the bytes of the letters that the record f uses first
   pub bytes-there : (f i : ℕ) → isNew t f ≡ true → f < i → (k : ℕ) → k < LETTERS-RECORD
-      → getD (lettersBefore t i) (before f * LETTERS-RECORD + k) 0 ≡ getD t (f * CLASS-RECORD + 16 + k) 0
+      → getD (lettersBefore t i) (before f * LETTERS-RECORD + k) 0 ≡ getD t (f * CLASS-RECORD + LETTERS-AT + k) 0
   bytes-there f zero e h k m = absurd (no h)
     where
       no : f < 0 → ⊥
@@ -199,22 +191,22 @@ module _ (t : List ℕ) where
       ∙ bytes-there f i e a k m)
       (λ a. let z : f ≡ i = omega arith in
       let y : before f * LETTERS-RECORD + k ≡ length (lettersBefore t i) + k = rw (z, ← before-length i) in
-      rw (y, letters-new i (rw z at e)) (getD-append-add (lettersBefore t i) (bytesFrom t (i * CLASS-RECORD + 16) LETTERS-RECORD) k 0
-      ∙ bytes-at t (i * CLASS-RECORD + 16) LETTERS-RECORD k m ∙ rw z)))
+      rw (y, letters-new i (rw z at e)) (getD-append-add (lettersBefore t i) (bytesFrom t (i * CLASS-RECORD + LETTERS-AT) LETTERS-RECORD) k 0
+      ∙ bytes-at t (i * CLASS-RECORD + LETTERS-AT) LETTERS-RECORD k m ∙ rw z)))
 
   module _ (f i : ℕ) (e : isNew t f ≡ true) (h : f < i) where
     pub base-put : baseAt (lettersBefore t i) (before f) ≡ recordAt t f .base
     unfolding baseAt recordAt
     base-put =
         let x : before f * LETTERS-RECORD + 0 ≡ before f * LETTERS-RECORD = omega arith in
-        let y : f * CLASS-RECORD + 16 + 0 ≡ f * CLASS-RECORD + 16 = omega arith in
-        rw (x, y) at (le32-same (lettersBefore t i) t (before f * LETTERS-RECORD) (f * CLASS-RECORD + 16) LETTERS-RECORD 0 (omega arith) (bytes-there f i e h))
+        let y : f * CLASS-RECORD + LETTERS-AT + 0 ≡ f * CLASS-RECORD + LETTERS-AT = omega arith in
+        rw (x, y) at (le32-same (lettersBefore t i) t (before f * LETTERS-RECORD) (f * CLASS-RECORD + LETTERS-AT) LETTERS-RECORD 0 (omega arith) (bytes-there f i e h))
 
     pub lower-put : lowerAt (lettersBefore t i) (before f) ≡ recordAt t f .lower
     unfolding lowerAt recordAt
     lower-put =
-        let y : f * CLASS-RECORD + 16 + 4 ≡ f * CLASS-RECORD + 20 = omega arith in
-        rw y at (le32-same (lettersBefore t i) t (before f * LETTERS-RECORD) (f * CLASS-RECORD + 16) LETTERS-RECORD 4 (omega arith) (bytes-there f i e h))
+        let y : f * CLASS-RECORD + LETTERS-AT + 4 ≡ f * CLASS-RECORD + 20 = omega arith in
+        rw y at (le32-same (lettersBefore t i) t (before f * LETTERS-RECORD) (f * CLASS-RECORD + LETTERS-AT) LETTERS-RECORD 4 (omega arith) (bytes-there f i e h))
 
   -- the record that used the letters k first
   pub record From (i k : ℕ) : Type 0 where
@@ -330,27 +322,27 @@ module _ (t : List ℕ) where
       no z = omega arith
 
   -- in the room of letters, whose front they are
-  module _ (i count : ℕ) (used : List ℕ) (g : Placed t i used count) where
+  module _ (i count : ℕ) (used links : List ℕ) (g : Placed t i used count links) where
     front : (k : ℕ) → k < count → (j : ℕ) → j < LETTERS-RECORD
         → getD used (k * LETTERS-RECORD + j) 0 ≡ getD (lettersBefore t i) (k * LETTERS-RECORD + j) 0
     front k h j l = sym (getD-take (count * LETTERS-RECORD) used (k * LETTERS-RECORD + j) 0 (omega arith)) ∙ rw (g .so-far)
 
+    module _ (k : ℕ) (h : k < count) where
+      pub base-front : baseAt used k ≡ baseAt (lettersBefore t i) k
+      unfolding baseAt
+      base-front =
+          let z : k * LETTERS-RECORD + 0 ≡ k * LETTERS-RECORD = omega arith in
+          rw z at (le32-same used (lettersBefore t i) (k * LETTERS-RECORD) (k * LETTERS-RECORD) LETTERS-RECORD 0 (omega arith) (front k h))
+
+      pub lower-front : lowerAt used k ≡ lowerAt (lettersBefore t i) k
+      unfolding lowerAt
+      lower-front = le32-same used (lettersBefore t i) (k * LETTERS-RECORD) (k * LETTERS-RECORD) LETTERS-RECORD 4 (omega arith) (front k h)
+
     seen : (base lower : ℕ) → first (lettersAre used base lower) count ≡ first (lettersAre (lettersBefore t i) base lower) (before i)
-    unfolding lettersAre baseAt lowerAt
-    seen base lower =
-        rw (← g .number) (first-same _ _ count (λ k h.
-        let z : k * LETTERS-RECORD + 0 ≡ k * LETTERS-RECORD = omega arith in
-        let x : le32 used (k * LETTERS-RECORD) ≡ le32 (lettersBefore t i) (k * LETTERS-RECORD) =
-        rw z at (le32-same used (lettersBefore t i) (k * LETTERS-RECORD) (k * LETTERS-RECORD) LETTERS-RECORD 0 (omega arith) (front k h)) in
-        let y : le32 used (k * LETTERS-RECORD + 4) ≡ le32 (lettersBefore t i) (k * LETTERS-RECORD + 4) =
-        le32-same used (lettersBefore t i) (k * LETTERS-RECORD) (k * LETTERS-RECORD) LETTERS-RECORD 4 (omega arith) (front k h) in
-        rw (x, y)))
+    unfolding lettersAre
+    seen base lower = rw (← g .number) (first-same _ _ count (λ k h. rw (base-front k h, lower-front k h)))
 
     pub place-found : (found base lower : ℕ) → plain t i ≡ false → base ≡ recordAt t i .base → lower ≡ recordAt t i .lower
         → found ≡ first (lettersAre used base lower) count → found + 1 ≡ packedPlace t i
     place-found found base lower p a b e =
         ap (λ (n : ℕ). n + 1) (e ∙ seen base lower ∙ rw (a, b) (found-at i (g .inside) p)) ∙ sym (place-some i p)
-
-    pub place-unmet : (met : Bool) → Unmet t i met → met ≡ false → plain t i ≡ false → count + 1 ≡ packedPlace t i
-    place-unmet met u e p =
-        ap (λ (n : ℕ). n + 1) (g .number ∙ ap before (sym (first-alone i (g .inside) (u .others e)))) ∙ sym (place-some i p)

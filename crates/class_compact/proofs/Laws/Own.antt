@@ -1,23 +1,23 @@
 -- The letters that are (0, 0) or a repeat: what each way of the code to tell it answers.
 -- Assumes nothing.
 use Prim.Native.Nat.{ℕ, _+_, _≤_, _<_}
-use mathlib.Core.Path.{_≡_, refl, sym, ap, _∙_}
-use mathlib.Core.Bool.{Bool, true, false, not, _&&_, _||_}
+use mathlib.Core.Path.{_≡_, refl, sym, _∙_}
+use mathlib.Core.Bool.{Bool, true, false, _&&_, _||_}
 use mathlib.Core.List.{List}
 use native.Mathlib.Omega.{arith}
 use lib.ListN.{getD, set, replicate}
 use lib.Dec.{eqb, ltb}
-use borrow.Author.Tests.{eqb-true, eqb-false, eq-eqb, ne-eqb, le-ltb, lt-ltb, ltb-true}
+use borrow.Author.Tests.{eqb-false, eq-eqb, ne-eqb, le-ltb, lt-ltb}
 use Rattle.base.specs.First.{first, each}
-use Rattle.base.proofs.Laws.First.{first-none, first-within, each-at, each-more}
-use Rattle.base.proofs.Laws.Tests.{by-bool, split, and-l, and-r, and-yes}
+use Rattle.base.specs.Limits.{MOST-CLASSES}
+use Rattle.base.proofs.Laws.First.{first-within, each-at, each-more}
+use Rattle.base.proofs.Laws.Tests.{by-bool, split, and-yes}
 use Rattle.class_compact.specs.Form.{compactRecords, lettersIn, placeAt, baseAt, lowerAt}
 use Rattle.class_compact.specs.Check.{noLetters, lettersAre, repeated, unused, early, badLetters, firstUse}
-use Rattle.class_compact.specs.Inner.Form.{MARKS, markAt}
-use Rattle.class_compact.specs.Inner.Marked.{Marked}
-use Rattle.class_compact.specs.Inner.Sound.{isOwn, allOwn, Use, Told}
+use Rattle.class_compact.specs.Inner.Links.{LINKS, Linked, Slot}
+use Rattle.class_compact.specs.Inner.Sound.{isOwn, allOwn, Own, Use, Told}
 use Rattle.class_compact.proofs.Laws.Firsts.{clash, or-no-l}
-use Rattle.class_compact.proofs.Laws.Marked.{marked-start, marked-more}
+use Rattle.class_compact.proofs.Laws.Links.{linked-start, linked-more}
 
 module _ (l : List ℕ) (k base lower : ℕ) (b : base ≡ baseAt l k) (w : lower ≡ lowerAt l k) where
   pub own-none : (eqb base 0 && eqb lower 0) ≡ true → false ≡ isOwn l k
@@ -38,41 +38,34 @@ module _ (l : List ℕ) (k base lower : ℕ) (b : base ≡ baseAt l k) (w : lowe
         (λ a. rw (lt-ltb found k a) (ne-eqb found k (λ z. omega arith)))
         (λ a. rw (le-ltb found k a) (eq-eqb found k (omega arith))))
 
-    -- no mark, no repeat
-    other : (marks : List Bool) → Marked (markAt l) k marks → getD marks (markAt l k) false ≡ false
-        → (j : ℕ) → j < k → lettersAre l (baseAt l k) (lowerAt l k) j ≡ false
-    unfolding lettersAre markAt
-    other marks m z j i =
-        by-bool (eqb (baseAt l j) (baseAt l k) && eqb (lowerAt l j) (lowerAt l k))
-        (λ s. let x : baseAt l j ≡ baseAt l k = eqb-true _ _ (and-l (eqb (baseAt l j) (baseAt l k)) (eqb (lowerAt l j) (lowerAt l k)) s) in
-        let y : lowerAt l j ≡ lowerAt l k = eqb-true _ _ (and-r (eqb (baseAt l j) (baseAt l k)) (eqb (lowerAt l j) (lowerAt l k)) s) in
-        clash (m .set j i) (rw (x, y) z))
-        (λ s. s)
+    pub own-again : (links : List ℕ) (slot : ℕ) → Slot l k base lower links slot → (getD links slot 0 ≡ 0 → ⊥) → getD links slot 0 ≤ k → false ≡ isOwn l k
+    own-again links slot s a h = let z = s .some a in sym (ne-eqb _ k (λ e. omega arith)) ∙ own-found _ refl
 
-    pub own-unmarked : (marks : List Bool) (mark : ℕ) → Marked (markAt l) k marks → mark ≡ markAt l k → getD marks mark false ≡ false → true ≡ isOwn l k
-    unfolding isOwn repeated
-    own-unmarked marks mark m e z =
-        let q : first (lettersAre l (baseAt l k) (lowerAt l k)) k ≡ k = first-none _ _ (other marks m (rw e at z)) in
-        rw (some, q, le-ltb k k (omega arith))
+    pub own-free : (links : List ℕ) (slot : ℕ) → Slot l k base lower links slot → getD links slot 0 ≡ 0 → true ≡ isOwn l k
+    own-free links slot s a = sym (eq-eqb _ k (s .none a)) ∙ own-found _ refl
+
+  pub own-linked : (links : List ℕ) (slot : ℕ) → Linked l k links → k < MOST-CLASSES → k < lettersIn l → Slot l k base lower links slot
+      → getD links slot 0 ≡ 0 → Linked l (k + 1) (set links slot (k + 1))
+  own-linked links slot h a c s e = linked-more l links k slot h a c (rw (b, w) at (s .walked)) e
 
 -- all of them
-pub record Owning (l : List ℕ) (marks : List Bool) (k : ℕ) : Type 0 where
+pub record Owning (l : List ℕ) (links : List ℕ) (k : ℕ) : Type 0 where
   pub below : k ≤ lettersIn l
-  pub marked : Marked (markAt l) k marks
+  pub linked : Linked l k links
   pub all : each (isOwn l) k ≡ true
 
 module _ (l : List ℕ) where
-  pub owning-start : Owning l (replicate MARKS false) 0
+  pub owning-start : Owning l (replicate LINKS 0) 0
   unfolding each
-  owning-start = record { below = omega arith; marked = marked-start (markAt l); all = refl }
+  owning-start = record { below = omega arith; linked = linked-start l; all = refl }
 
-  module _ (marks : List Bool) (k : ℕ) (o : Owning l marks k) where
-    pub owning-more : (mark : ℕ) → k < lettersIn l → isOwn l k ≡ true → mark ≡ markAt l k → mark < MARKS → Owning l (set marks mark true) (k + 1)
-    owning-more mark h e m small =
+  module _ (links : List ℕ) (k : ℕ) (o : Owning l links k) where
+    pub owning-more : (own : Bool) (more : List ℕ) → k < lettersIn l → Own l k own more → own ≡ true → Owning l more (k + 1)
+    owning-more own more h e y =
         record {
           below = omega arith;
-          marked = marked-more (markAt l) marks k mark (o .marked) m small;
-          all = sym (each-more (isOwn l) k) ∙ and-yes (o .all) e;
+          linked = e .linked y;
+          all = sym (each-more (isOwn l) k) ∙ and-yes (o .all) (sym (e .is) ∙ y);
         }
 
     pub owning-end : lettersIn l ≤ k → true ≡ allOwn l

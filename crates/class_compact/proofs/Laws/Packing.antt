@@ -2,36 +2,34 @@
 -- Assumes nothing.
 use Prim.Native.Nat.{ℕ, zero, suc, _+_, _-_, _*_, _/_, _%_, _≤_, _<_}
 use mathlib.Core.Path.{_≡_, refl, sym, ap, _∙_}
-use mathlib.Core.Bool.{Bool, true, false, cond, not, _&&_}
-use mathlib.Core.List.{List, [], _∷_, _++_}
-use native.Mathlib.Nat.{add-zero, zero-add}
+use mathlib.Core.Bool.{true, false, not, _&&_}
+use mathlib.Core.List.{List, _∷_, _++_}
 use native.Mathlib.Omega.{arith}
-use lib.ListN.{length, getD, replicate, List·getD-append}
-use lib.Seq.{getD-append-add}
+use lib.ListN.{length, getD, List·getD-append}
 use lib.Dec.{eqb, leb, ltb}
-use borrow.Author.Tests.{eqb-true, eq-eqb, leb-true, le-leb, lt-ltb, le-ltb, ltb-true, ltb-false}
+use borrow.Author.Tests.{eqb-true, eq-eqb, le-leb, lt-ltb, le-ltb}
 use Rattle.base.specs.declared.Cause.the-variants.{Allowed}
 use Rattle.base.specs.First.{first, each}
-use Rattle.base.specs.Limits.{CLASS-RECORD, MOST-CLASSES}
-use Rattle.base.specs.LittleEndian.{le16, le32}
+use Rattle.base.specs.Limits.{CLASS-RECORD}
+use Rattle.base.specs.LittleEndian.{le16}
 use Rattle.base.specs.Tests.{within}
 use Rattle.base.proofs.Laws.First.{first-none, each-all}
-use Rattle.base.proofs.Laws.Tests.{by-bool, split, and-l, and-r, and-yes, within-yes}
+use Rattle.base.proofs.Laws.Tests.{by-bool, split, and-l, and-yes, within-yes}
 use Rattle.class_records.specs.Records.{records, recordAt, goodTable}
 use Rattle.class_records.proofs.Laws.Records.{table-number, table-fields}
 use Rattle.classes.proofs.Laws.Check.{good-free}
 use Rattle.ring.specs.Record.{leBytes}
-use Rattle.class_compact.specs.Form.{COMPACT-RECORD, Bytes, SHARED-BYTES, LETTERS-RECORD, compactRecords, lettersIn, placeAt, baseAt, lowerAt, bytesFrom, joined}
+use Rattle.class_compact.specs.Form.{COMPACT-RECORD, Bytes, SHARED-BYTES, LETTERS-RECORD, LETTERS-AT, compactRecords, lettersIn, placeAt, baseAt, lowerAt, bytesFrom, joined}
 use Rattle.class_compact.specs.Unpacked.{lettersBytes, expansion, unpacked}
 use Rattle.class_compact.specs.Check.{noLetters, lettersAre, repeated, badCompact}
 use Rattle.class_compact.specs.Packed.{plain, alike, firstAlike, isNew, lettersBefore, packedPlace, compacted, packedRecords, packedLetters}
-use Rattle.class_compact.specs.Inner.Form.{Sized}
+use Rattle.class_compact.specs.Inner.Form.{Sized, HALF}
 use Rattle.class_compact.specs.Inner.Sound.{seenBefore, nextOnly, inFirstUse, isOwn, allOwn, sound}
 use Rattle.class_compact.proofs.Laws.Bytes.{words-same, words-zero, half-zero, half-read}
 use Rattle.class_compact.proofs.Laws.Calls.{records-length, letters-length}
 use Rattle.class_compact.proofs.Laws.Firsts.{clash}
 use Rattle.class_compact.proofs.Laws.Form.{bytes-length, bytes-at, bytes-same, bytes-split, joined-same, joined-at, joined-table}
-use Rattle.class_compact.proofs.Laws.Numbering.{both, alike-base, alike-lower, alike-of, alike-at, alike-first, alike-not, first-new, new-own, new-some, before-length, number-new}
+use Rattle.class_compact.proofs.Laws.Numbering.{both, alike-base, alike-lower, alike-of, alike-at, alike-first, alike-not, first-new, new-own, new-some, number-new}
 use Rattle.class_compact.proofs.Laws.Numbering.{number-old, number-none, number-rising, number-past, number-few, bytes-there, base-put, lower-put, From, letter-from, place-none}
 use Rattle.class_compact.proofs.Laws.Numbering.{place-some, place-few, new-place, new-past}
 use Rattle.class_compact.proofs.Laws.Packed.{compacted-length}
@@ -68,7 +66,7 @@ module _ (t : List ℕ) (g : goodTable t ≡ true) (bytes : Bytes t) where
   unfolding packedRecords
   record-byte i j h m = joined-at (compacted t) COMPACT-RECORD (records t) (λ k b. compacted-length t k) i j h m
 
-  place-small : (i : ℕ) → i < records t → packedPlace t i < 65536
+  place-small : (i : ℕ) → i < records t → packedPlace t i < HALF
   place-small i h = omega (arith, place-few t i h, number-few t i, table-number t g)
 
   place-same : (i : ℕ) → i < records t → placeAt c i ≡ packedPlace t i
@@ -156,18 +154,18 @@ module _ (t : List ℕ) (g : goodTable t ≡ true) (bytes : Bytes t) where
 
   -- ---- and back
   letters-there : (f : ℕ) → isNew t f ≡ true → f < records t
-      → bytesFrom l (before f * LETTERS-RECORD) LETTERS-RECORD ≡ bytesFrom t (f * CLASS-RECORD + 16) LETTERS-RECORD
+      → bytesFrom l (before f * LETTERS-RECORD) LETTERS-RECORD ≡ bytesFrom t (f * CLASS-RECORD + LETTERS-AT) LETTERS-RECORD
   unfolding packedLetters
-  letters-there f n b = bytes-same (lettersBefore t (records t)) t (before f * LETTERS-RECORD) (f * CLASS-RECORD + 16) LETTERS-RECORD (bytes-there t f (records t) n b)
+  letters-there f n b = bytes-same (lettersBefore t (records t)) t (before f * LETTERS-RECORD) (f * CLASS-RECORD + LETTERS-AT) LETTERS-RECORD (bytes-there t f (records t) n b)
 
-  letters-back : (i : ℕ) → i < records t → lettersBytes l (packedPlace t i) ≡ bytesFrom t (i * CLASS-RECORD + 16) LETTERS-RECORD
+  letters-back : (i : ℕ) → i < records t → lettersBytes l (packedPlace t i) ≡ bytesFrom t (i * CLASS-RECORD + LETTERS-AT) LETTERS-RECORD
   unfolding lettersBytes plain recordAt
   letters-back i h =
       by-bool (plain t i)
       (λ e. let z : packedPlace t i ≡ 0 = sym (place-none t i e) in
       let w = both (recordAt t i .base) (recordAt t i .lower) 0 0 e in
-      let y : i * CLASS-RECORD + 16 + 4 ≡ i * CLASS-RECORD + 20 = omega arith in
-      rw z (sym (words-zero t bytes (i * CLASS-RECORD + 16) (w .0) (rw y (w .1)))))
+      let y : i * CLASS-RECORD + LETTERS-AT + 4 ≡ i * CLASS-RECORD + 20 = omega arith in
+      rw z (sym (words-zero t bytes (i * CLASS-RECORD + LETTERS-AT) (w .0) (rw y (w .1)))))
       (λ e. let f = firstAlike t i in
       let a = alike-first t i h in
       let n = first-new t i h e in
@@ -176,10 +174,10 @@ module _ (t : List ℕ) (g : goodTable t ≡ true) (bytes : Bytes t) where
       let w : within 1 (lettersIn l) (before f + 1) ≡ true =
       within-yes 1 (lettersIn l) (before f + 1) (omega arith) (rw letters-number (number-past t f (records t) n below)) in
       let y : before f + 1 - 1 ≡ before f = omega arith in
-      let x : f * CLASS-RECORD + 16 + 4 ≡ f * CLASS-RECORD + 20 = omega arith in
-      let v : i * CLASS-RECORD + 16 + 4 ≡ i * CLASS-RECORD + 20 = omega arith in
+      let x : f * CLASS-RECORD + LETTERS-AT + 4 ≡ f * CLASS-RECORD + 20 = omega arith in
+      let v : i * CLASS-RECORD + LETTERS-AT + 4 ≡ i * CLASS-RECORD + 20 = omega arith in
       rw (z, w, y) (letters-there f n below
-      ∙ words-same t t bytes bytes (f * CLASS-RECORD + 16) (i * CLASS-RECORD + 16) (alike-base t i f a) (rw (x, v) (alike-lower t i f a))))
+      ∙ words-same t t bytes bytes (f * CLASS-RECORD + LETTERS-AT) (i * CLASS-RECORD + LETTERS-AT) (alike-base t i f a) (rw (x, v) (alike-lower t i f a))))
 
   shared-back : (i : ℕ) → i < records t → bytesFrom c (i * COMPACT-RECORD) SHARED-BYTES ≡ bytesFrom t (i * CLASS-RECORD) SHARED-BYTES
   unfolding compacted
@@ -192,14 +190,14 @@ module _ (t : List ℕ) (g : goodTable t ≡ true) (bytes : Bytes t) where
   record-back : (i : ℕ) → i < records t → expansion c l i ≡ bytesFrom t (i * CLASS-RECORD) CLASS-RECORD
   unfolding expansion recordAt
   record-back i h =
-      let z : le16 t (i * CLASS-RECORD + 14) ≡ 0 = table-fields t g i h .pad in
+      let z : le16 t (i * CLASS-RECORD + SHARED-BYTES) ≡ 0 = table-fields t g i h .pad in
       rw (place-same i h, shared-back i h, letters-back i h)
       (sym (bytes-split t (i * CLASS-RECORD) 14 10 ∙ ap (λ (x : List ℕ). bytesFrom t (i * CLASS-RECORD) 14 ++ x) (behind z)))
     where
-      behind : le16 t (i * CLASS-RECORD + 14) ≡ 0
-          → bytesFrom t (i * CLASS-RECORD + 14) 10 ≡ 0 ∷ 0 ∷ bytesFrom t (i * CLASS-RECORD + 16) LETTERS-RECORD
+      behind : le16 t (i * CLASS-RECORD + SHARED-BYTES) ≡ 0
+          → bytesFrom t (i * CLASS-RECORD + 14) 10 ≡ 0 ∷ 0 ∷ bytesFrom t (i * CLASS-RECORD + LETTERS-AT) LETTERS-RECORD
       behind z =
-          let y : i * CLASS-RECORD + 14 + 2 ≡ i * CLASS-RECORD + 16 = omega arith in
+          let y : i * CLASS-RECORD + 14 + 2 ≡ i * CLASS-RECORD + LETTERS-AT = omega arith in
           bytes-split t (i * CLASS-RECORD + 14) 2 8 ∙ rw (half-zero t (i * CLASS-RECORD + 14) z, y)
 
   table-whole : length t ≡ records t * CLASS-RECORD

@@ -1,10 +1,9 @@
 -- The first bad record of a compact table: the first whose letters are missing or the first bad one of the expansion, whichever comes first.
 -- Assumes nothing.
 use Prim.Native.Nat.{ℕ, _≤_, _<_}
-use mathlib.Core.Path.{_≡_, refl, sym, ap, _∙_}
+use mathlib.Core.Path.{_≡_, ap, _∙_}
 use mathlib.Core.Bool.{not}
 use mathlib.Core.List.{List}
-use native.Mathlib.Omega.{arith}
 use Rattle.base.specs.First.{first}
 use Rattle.class_records.specs.Records.{records, goodAt, firstBad}
 use Rattle.class_compact.specs.Form.{compactRecords}

@@ -1,9 +1,9 @@
 -- Where the quick test passes, what is left of the check is that of the expansion (`sound-same`); and whatever it says, `beyondTable` and then the
 -- expansion's own check say what the check of the compact table does (`beyond-then`). A compact table that passes has its parts in order (`Good`).
 -- Assumes nothing.
-use Prim.Native.Nat.{ℕ, _+_, _*_, _%_, _≤_, _<_}
+use Prim.Native.Nat.{ℕ, _*_, _%_, _≤_, _<_}
 use mathlib.Core.Path.{_≡_, refl, sym, ap, _∙_}
-use mathlib.Core.Bool.{Bool, true, false, not, _&&_, _||_}
+use mathlib.Core.Bool.{true, false, not, _&&_, _||_}
 use mathlib.Core.List.{List, [], _∷_}
 use native.Mathlib.Omega.{arith}
 use lib.ListN.{length}
@@ -16,13 +16,13 @@ use Rattle.base.specs.Causes.{refusedAt, given, firstOf}
 use Rattle.base.specs.First.{first, each}
 use Rattle.base.specs.Limits.{CLASS-RECORD, MOST-CLASSES}
 use Rattle.base.specs.Refusals.{BAD-CLASSES}
-use Rattle.base.proofs.Laws.Causes.{first-one, first-on, first-refused, first-passed, first-given, first-free, free-first, given-free, free-given, given-yes}
-use Rattle.base.proofs.Laws.First.{first-none, first-before, first-within, each-at, each-all}
-use Rattle.base.proofs.Laws.Tests.{by-bool, split, and-l, and-r, and-yes}
-use Rattle.class_records.specs.Records.{records, goodAt, firstBad, goodTable}
+use Rattle.base.proofs.Laws.Causes.{first-one, first-on, first-refused, first-passed, first-given, first-free, given-free, free-given, given-yes}
+use Rattle.base.proofs.Laws.First.{first-none, first-before, first-within, each-at}
+use Rattle.base.proofs.Laws.Tests.{by-bool, split, and-l, and-r}
+use Rattle.class_records.specs.Records.{records, goodAt, firstBad}
 use Rattle.class_records.proofs.Laws.Records.{none-bad}
 use Rattle.classes.specs.Check.{badClasses}
-use Rattle.classes.proofs.Laws.Check.{record-refused, passed, free-good}
+use Rattle.classes.proofs.Laws.Check.{record-refused, passed}
 use Rattle.class_compact.specs.Form.{COMPACT-RECORD, LETTERS-RECORD, compactRecords, lettersIn, placeAt}
 use Rattle.class_compact.specs.Unpacked.{unpacked}
 use Rattle.class_compact.specs.Check as checks
@@ -30,7 +30,7 @@ use Rattle.class_compact.specs.Check.{missing, badRecordAt, firstBadReco
 use Rattle.class_compact.specs.Check.{badCompactRecord, badLettersLength, badLettersRecord, badCompact}
 use Rattle.class_compact.specs.Inner.Form.{Sized, wrongList}
 use Rattle.class_compact.specs.Inner.Sound.{inFirstUse, isOwn, allOwn, sound, beyondTable}
-use Rattle.class_compact.proofs.Laws.Firsts.{clash, first-same, or-none, or-no-l, or-no-r}
+use Rattle.class_compact.proofs.Laws.Firsts.{first-same, or-none, or-no-l, or-no-r}
 use Rattle.class_compact.proofs.Laws.FirstUse.{place-within, order-used, order-kept, used-in-order}
 use Rattle.class_compact.proofs.Laws.Records.{table-bad}
 use Rattle.class_compact.proofs.Laws.Unpacked.{unpacked-length, unpacked-records}

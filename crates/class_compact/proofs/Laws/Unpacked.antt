@@ -2,9 +2,9 @@
 -- (`unpacked-length`, `unpacked-records`); and the base and lower of each are those at its place (`base-there`, `lower-there`, `base-none`, `lower-none`).
 -- Assumes nothing.
 use Prim.Native.Nat.{ℕ, suc, _+_, _-_, _*_, _/_, _≤_, _<_}
-use mathlib.Core.Path.{_≡_, refl, sym, ap, _∙_}
+use mathlib.Core.Path.{_≡_, refl, ap, _∙_}
 use mathlib.Core.Bool.{true, false}
-use mathlib.Core.List.{List, _∷_, _++_}
+use mathlib.Core.List.{List, _∷_}
 use native.Mathlib.Omega.{arith}
 use lib.ListN.{length, getD, take, drop, replicate, length-append}
 use lib.Seq.{getD-append-add}
@@ -14,7 +14,7 @@ use Rattle.base.specs.Put.{put}
 use Rattle.base.specs.Tests.{within}
 use Rattle.base.proofs.Laws.Tests.{within-lo, within-hi, cond-both}
 use Rattle.class_records.specs.Records.{records, recordAt}
-use Rattle.class_compact.specs.Form.{COMPACT-RECORD, SHARED-BYTES, LETTERS-RECORD, compactRecords, lettersIn, placeAt, baseAt, lowerAt, bytesFrom, joined}
+use Rattle.class_compact.specs.Form.{COMPACT-RECORD, SHARED-BYTES, LETTERS-RECORD, LETTERS-AT, compactRecords, lettersIn, placeAt, baseAt, lowerAt, bytesFrom, joined}
 use Rattle.class_compact.specs.Unpacked.{lettersBytes, expansion, unpacked}
 use Rattle.class_compact.proofs.Laws.Form.{bytes-length, bytes-at, bytes-slice, le32-same, joined-length, joined-at}
 
@@ -61,7 +61,7 @@ module _ (c l : List ℕ) where
     expanded-without w = shared ∙ rw (← e, w)
 
     pub expanded-with : (s : List ℕ) → within 1 (lettersIn l) p ≡ true
-        → s ≡ put r 16 (take ((p - 1) * LETTERS-RECORD + LETTERS-RECORD - (p - 1) * LETTERS-RECORD) (drop ((p - 1) * LETTERS-RECORD) l))
+        → s ≡ put r LETTERS-AT (take ((p - 1) * LETTERS-RECORD + LETTERS-RECORD - (p - 1) * LETTERS-RECORD) (drop ((p - 1) * LETTERS-RECORD) l))
         → s ≡ expansion c l i
     unfolding put bytesFrom expansion lettersBytes
     expanded-with s w m =
@@ -72,32 +72,32 @@ module _ (c l : List ℕ) where
   two : (s : List ℕ) (k : ℕ) → getD (0 ∷ 0 ∷ s) (2 + k) 0 ≡ getD s k 0
   two s k = let q : 2 + k ≡ suc (suc k) = omega arith in rw q
 
-  behind : (i k : ℕ) → getD (expansion c l i) (16 + k) 0 ≡ getD (lettersBytes l (placeAt c i)) (0 + k) 0
+  behind : (i k : ℕ) → getD (expansion c l i) (LETTERS-AT + k) 0 ≡ getD (lettersBytes l (placeAt c i)) (0 + k) 0
   unfolding expansion
   behind i k =
-      let y : 16 + k ≡ length (bytesFrom c (i * COMPACT-RECORD) SHARED-BYTES) + (2 + k) = omega (arith, bytes-length c (i * COMPACT-RECORD) SHARED-BYTES) in
+      let y : LETTERS-AT + k ≡ length (bytesFrom c (i * COMPACT-RECORD) SHARED-BYTES) + (2 + k) = omega (arith, bytes-length c (i * COMPACT-RECORD) SHARED-BYTES) in
       let x : 0 + k ≡ k = omega arith in
       rw (y, x) (getD-append-add (bytesFrom c (i * COMPACT-RECORD) SHARED-BYTES) (0 ∷ 0 ∷ lettersBytes l (placeAt c i)) (2 + k) 0 ∙ two (lettersBytes l (placeAt c i)) k)
 
   pub at-letters : (i : ℕ) → i < compactRecords c → (k : ℕ) → k < LETTERS-RECORD
-      → getD (unpacked c l) (i * CLASS-RECORD + 16 + k) 0 ≡ getD (lettersBytes l (placeAt c i)) (0 + k) 0
+      → getD (unpacked c l) (i * CLASS-RECORD + LETTERS-AT + k) 0 ≡ getD (lettersBytes l (placeAt c i)) (0 + k) 0
   unfolding unpacked
   at-letters i h k m =
-      let z : i * CLASS-RECORD + 16 + k ≡ i * CLASS-RECORD + (16 + k) = omega arith in
-      rw z (joined-at (expansion c l) CLASS-RECORD (compactRecords c) (λ j b. expansion-length j) i (16 + k) h (omega arith) ∙ behind i k)
+      let z : i * CLASS-RECORD + LETTERS-AT + k ≡ i * CLASS-RECORD + (LETTERS-AT + k) = omega arith in
+      rw z (joined-at (expansion c l) CLASS-RECORD (compactRecords c) (λ j b. expansion-length j) i (LETTERS-AT + k) h (omega arith) ∙ behind i k)
 
   module _ (i : ℕ) (h : i < compactRecords c) where
     base-is : recordAt (unpacked c l) i .base ≡ le32 (lettersBytes l (placeAt c i)) 0
     unfolding recordAt
     base-is =
-        let z : i * CLASS-RECORD + 16 + 0 ≡ i * CLASS-RECORD + 16 = omega arith in
-        rw z at (le32-same (unpacked c l) (lettersBytes l (placeAt c i)) (i * CLASS-RECORD + 16) 0 LETTERS-RECORD 0 (omega arith) (at-letters i h))
+        let z : i * CLASS-RECORD + LETTERS-AT + 0 ≡ i * CLASS-RECORD + LETTERS-AT = omega arith in
+        rw z at (le32-same (unpacked c l) (lettersBytes l (placeAt c i)) (i * CLASS-RECORD + LETTERS-AT) 0 LETTERS-RECORD 0 (omega arith) (at-letters i h))
 
     lower-is : recordAt (unpacked c l) i .lower ≡ le32 (lettersBytes l (placeAt c i)) 4
     unfolding recordAt
     lower-is =
-        let z : i * CLASS-RECORD + 16 + 4 ≡ i * CLASS-RECORD + 20 = omega arith in
-        rw z at (le32-same (unpacked c l) (lettersBytes l (placeAt c i)) (i * CLASS-RECORD + 16) 0 LETTERS-RECORD 4 (omega arith) (at-letters i h))
+        let z : i * CLASS-RECORD + LETTERS-AT + 4 ≡ i * CLASS-RECORD + 20 = omega arith in
+        rw z at (le32-same (unpacked c l) (lettersBytes l (placeAt c i)) (i * CLASS-RECORD + LETTERS-AT) 0 LETTERS-RECORD 4 (omega arith) (at-letters i h))
 
     -- no letters at 0
     pub base-none : placeAt c i ≡ 0 → recordAt (unpacked c l) i .base ≡ 0

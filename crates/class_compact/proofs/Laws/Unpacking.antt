@@ -2,23 +2,21 @@
 -- Assumes nothing.
 use Prim.Native.Nat.{ℕ, zero, suc, _+_, _-_, _*_, _/_, _%_, _≤_, _<_}
 use mathlib.Core.Path.{_≡_, refl, sym, ap, _∙_}
-use mathlib.Core.Bool.{Bool, true, false, cond, not, _&&_}
-use mathlib.Core.List.{List, [], _∷_, _++_}
-use native.Mathlib.Nat.{add-zero, zero-add}
+use mathlib.Core.Bool.{true, false, not}
+use mathlib.Core.List.{List, _∷_, _++_}
+use native.Mathlib.Nat.{zero-add}
 use native.Mathlib.Omega.{arith}
 use lib.ListN.{length, getD, List·getD-append}
 use lib.Dec.{eqb, leb, ltb}
-use borrow.Author.Tests.{eqb-true, eqb-false, eq-eqb, ne-eqb, leb-true, lt-ltb, le-ltb}
+use borrow.Author.Tests.{eq-eqb, ne-eqb, leb-true, lt-ltb, le-ltb}
 use Rattle.base.specs.declared.Cause.the-variants.{Allowed}
-use Rattle.base.specs.First.{first, each}
+use Rattle.base.specs.First.{first}
 use Rattle.base.specs.Limits.{CLASS-RECORD}
 use Rattle.base.specs.Tests.{within}
-use Rattle.base.proofs.Laws.First.{each-at}
-use Rattle.base.proofs.Laws.Tests.{by-bool, split, and-l, and-r, and-yes, within-yes}
+use Rattle.base.proofs.Laws.Tests.{split, within-yes}
 use Rattle.class_records.specs.Records.{records, recordAt, goodTable}
 use Rattle.classes.proofs.Laws.Check.{free-good}
-use Rattle.ring.specs.Record.{leBytes}
-use Rattle.class_compact.specs.Form.{COMPACT-RECORD, Bytes, SHARED-BYTES, LETTERS-RECORD, compactRecords, lettersIn, placeAt, baseAt, lowerAt, bytesFrom, joined}
+use Rattle.class_compact.specs.Form.{COMPACT-RECORD, Bytes, SHARED-BYTES, LETTERS-RECORD, LETTERS-AT, compactRecords, lettersIn, placeAt, baseAt, lowerAt, bytesFrom, joined}
 use Rattle.class_compact.specs.Unpacked.{lettersBytes, expansion, unpacked}
 use Rattle.class_compact.specs.Check.{noLetters, lettersAre, repeated, badCompact}
 use Rattle.class_compact.specs.Packed.{plain, alike, firstAlike, isNew, lettersBefore, packedPlace, compacted, packedRecords, packedLetters}
@@ -26,9 +24,9 @@ use Rattle.class_compact.specs.Inner.Form.{Sized}
 use Rattle.class_compact.specs.Inner.Sound.{seenBefore, nextOnly, inFirstUse}
 use Rattle.class_compact.proofs.Laws.Bytes.{half-back}
 use Rattle.class_compact.proofs.Laws.Firsts.{clash, first-least}
-use Rattle.class_compact.proofs.Laws.FirstUse.{place-seen, UsedBy, used-by, next-all, all-seen}
-use Rattle.class_compact.proofs.Laws.Form.{bytes-length, bytes-at, bytes-are, bytes-all, bytes-same, bytes-split, joined-same, joined-at, joined-table}
-use Rattle.class_compact.proofs.Laws.Numbering.{both, both-yes, alike-base, alike-lower, alike-of, alike-at, alike-first, alike-not, first-new, new-own, new-some, before-new}
+use Rattle.class_compact.proofs.Laws.FirstUse.{place-seen, used-by, next-all, all-seen}
+use Rattle.class_compact.proofs.Laws.Form.{bytes-length, bytes-at, bytes-all, bytes-same, bytes-split, joined-same, joined-at, joined-table}
+use Rattle.class_compact.proofs.Laws.Numbering.{both, both-yes, alike-base, alike-lower, alike-of, alike-at, alike-first, first-new, before-new}
 use Rattle.class_compact.proofs.Laws.Numbering.{before-old, place-none, place-some}
 use Rattle.class_compact.proofs.Laws.Sound.{Good, good-parts, record-there, table-allowed, good-order, good-some, good-once}
 use Rattle.class_compact.proofs.Laws.Unpacked.{expansion-length, unpacked-records, base-none, lower-none, base-there, lower-there, at-letters, there}
@@ -171,15 +169,15 @@ module _ (c l : List ℕ) (s : Sized c) (ok : badCompact c l ≡ Allowed) where
 
   -- ---- the letters before a record are those that it has seen
   new-bytes : (i : ℕ) → i < compactRecords c → placeAt c i ≡ seenBefore c i + 1
-      → bytesFrom u (i * CLASS-RECORD + 16) LETTERS-RECORD ≡ bytesFrom l (seenBefore c i * LETTERS-RECORD) LETTERS-RECORD
+      → bytesFrom u (i * CLASS-RECORD + LETTERS-AT) LETTERS-RECORD ≡ bytesFrom l (seenBefore c i * LETTERS-RECORD) LETTERS-RECORD
   new-bytes i h e =
       let w = there-is i h (omega arith) in
       let z : placeAt c i - 1 ≡ seenBefore c i = omega arith in
-      bytes-same u l (i * CLASS-RECORD + 16) (seenBefore c i * LETTERS-RECORD) LETTERS-RECORD
+      bytes-same u l (i * CLASS-RECORD + LETTERS-AT) (seenBefore c i * LETTERS-RECORD) LETTERS-RECORD
       (λ k m. at-letters c l i h k m ∙ (rw z at (there c l i h w k m)))
 
   more : (i : ℕ) → i < compactRecords c → placeAt c i ≡ seenBefore c i + 1 → lettersBefore u i ≡ bytesFrom l 0 (seenBefore c i * LETTERS-RECORD)
-      → lettersBefore u i ++ bytesFrom u (i * CLASS-RECORD + 16) LETTERS-RECORD ≡ bytesFrom l 0 (placeAt c i * LETTERS-RECORD)
+      → lettersBefore u i ++ bytesFrom u (i * CLASS-RECORD + LETTERS-AT) LETTERS-RECORD ≡ bytesFrom l 0 (placeAt c i * LETTERS-RECORD)
   more i h e f =
       let z : (seenBefore c i + 1) * LETTERS-RECORD ≡ seenBefore c i * LETTERS-RECORD + LETTERS-RECORD = omega arith in
       rw (e, z, f, new-bytes i h e) (sym (bytes-split l 0 (seenBefore c i * LETTERS-RECORD) LETTERS-RECORD ∙ rw (zero-add (seenBefore c i * LETTERS-RECORD))))

@@ -1,8 +1,8 @@
 -- The walk that holds each record's place to the largest before it (`Seen`): its start, its step and its end.
 -- Assumes nothing.
 use Prim.Native.Nat.{ℕ, _+_, _≤_, _<_}
-use mathlib.Core.Path.{_≡_, refl, sym, ap, _∙_}
-use mathlib.Core.Bool.{Bool, true, cond, _&&_}
+use mathlib.Core.Path.{_≡_, refl, _∙_}
+use mathlib.Core.Bool.{Bool, true, _&&_}
 use mathlib.Core.List.{List}
 use native.Mathlib.Numerals.{add-one}
 use native.Mathlib.Omega.{arith}
@@ -11,14 +11,14 @@ use Rattle.base.specs.First.{each}
 use Rattle.base.specs.Inner.Numbers.{Picked}
 use Rattle.base.proofs.Laws.First.{each-more}
 use Rattle.base.proofs.Laws.Tests.{by-test}
-use Rattle.class_compact.specs.Form.{compactRecords, placeAt}
-use Rattle.class_compact.specs.Inner.Form.{Place}
+use Rattle.class_compact.specs.Form.{compactRecords}
+use Rattle.class_compact.specs.Inner.Form.{Place, HALF}
 use Rattle.class_compact.specs.Inner.Sound.{seenBefore, nextOnly, inFirstUse}
 
 pub record Seen (c : List ℕ) (i seen : ℕ) (good : Bool) : Type 0 where
   pub below : i ≤ compactRecords c
   pub is : seen ≡ seenBefore c i
-  pub small : seen < 65536
+  pub small : seen < HALF
   pub all : good ≡ each (nextOnly c) i
 
 module _ (c : List ℕ) where
@@ -33,7 +33,7 @@ module _ (c : List ℕ) where
       record {
         below = omega arith;
         is = q .is ∙ rw (add-one i, s .is, p .is);
-        small = rw (q .is) (by-test (λ (m : ℕ). m < 65536) (ltb seen place) place seen (λ e. p .small) (λ e. s .small));
+        small = rw (q .is) (by-test (λ (m : ℕ). m < HALF) (ltb seen place) place seen (λ e. p .small) (λ e. s .small));
         all = rw (← each-more (nextOnly c) i, s .all, s .is, p .is);
       }
 

@@ -9,13 +9,13 @@ returns : tie.Need-returns
 returns c =
     let at-beyond-table = c .before .before .before in
     let entry = at-beyond-table .before .before .before .before in
-    filled-refused _ _ (entry .pre .sized) _ (sym (at-beyond-table .beyond-table .ensures) ∙ c .before .why .given .1)
+    filled-refused _ _ (entry .pre .filled .sized) _ (sym (at-beyond-table .beyond-table .ensures) ∙ c .before .why .given .1)
 
 returns-2 : tie.Need-returns-2
 returns-2 c =
     let at-beyond-table = c .before .before .before in
     let entry = at-beyond-table .before .before .before .before in
-    c .bad-classes .ensures ∙ filled-allowed _ _ (entry .pre .sized) _ (entry .pre .is)
+    c .bad-classes .ensures ∙ filled-allowed _ _ (entry .pre .filled .sized) _ (entry .pre .filled .is)
     (sym (at-beyond-table .beyond-table .ensures) ∙ c .before .enum-told .given .1)
 
 pub bad-filled-spec : {M : Type 1} → statement M

@@ -1,22 +1,31 @@
 -- The fronts of the rooms are the packed table. Assumes nothing.
-use Prim.Native.Nat.{ℕ}
-use Rattle.class_compact.proofs.Laws.Calls.{letters-few, records-front, letters-front}
+use Prim.Native.Nat.{_*_}
+use Rattle.base.specs.Limits.{MOST-CLASSES}
+use Rattle.class_compact.specs.Form.{COMPACT-RECORD, LETTERS-RECORD}
+use Rattle.class_compact.proofs.Laws.Links.{zeros-length}
+use Rattle.class_compact.proofs.Laws.Calls.{letters-few, room-fits, records-front, letters-front}
 use Rattle.class_records.proofs.Laws.Records.{table-number}
 use borrow.Author.Needs.{needs}
-use lib.ListN.{length-take, length-replicate}
+use lib.ListN.{length-take}
 use native.Mathlib.Omega.{arith}
 use Rattle.class_compact.proofs.pack_good.Statement.{statement}
 use Rattle.class_compact.proofs.pack_good.Tie as tie
 
+slice-aggregate-pack-into : tie.Need-slice-aggregate-pack-into
+slice-aggregate-pack-into c = zeros-length (MOST-CLASSES * COMPACT-RECORD)
+
+slice-aggregate-pack-into-2 : tie.Need-slice-aggregate-pack-into-2
+slice-aggregate-pack-into-2 c = zeros-length (MOST-CLASSES * LETTERS-RECORD)
+
 pack-into-requires : tie.Need-pack-into-requires
 pack-into-requires c κs =
     let entry = c .before .before .before .before .before in
-    (table-number _ (entry .pre), omega (arith, length-replicate {A = ℕ} 131072 0), omega (arith, length-replicate {A = ℕ} 65536 0))
+    (table-number _ (entry .pre), room-fits (MOST-CLASSES * COMPACT-RECORD) _ (omega arith), room-fits (MOST-CLASSES * LETTERS-RECORD) _ (omega arith))
 
 array-share-prefix-packed : tie.Need-array-share-prefix-packed
 array-share-prefix-packed c =
     let few = table-number _ (c .before .before .before .before .before .before .before .before .pre) in
-    search needs
+    omega (arith, few)
 
 slice-aggregate-put-out : tie.Need-slice-aggregate-put-out
 slice-aggregate-put-out c =
@@ -32,7 +41,7 @@ mul-used c =
 array-share-prefix-used : tie.Need-array-share-prefix-used
 array-share-prefix-used c =
     let few = letters-few _ _ (c .before .before .before .before .before .before .before .before .before .pre) (c .before .before .before .pack-into .ensures .0) in
-    search needs
+    omega (arith, few)
 
 slice-aggregate-put-out-2 : tie.Need-slice-aggregate-put-out-2
 slice-aggregate-put-out-2 c =
@@ -45,18 +54,17 @@ put-out-requires c κs =
     let at-pack-into = c .before .before .before .before .before .before in
     let entry = at-pack-into .before .before .before .before .before .before in (
       entry .pre,
-      records-front _ _ _ (let few = table-number _ (entry .pre) in omega (arith, few, length-replicate {A = ℕ} 131072 0)) (at-pack-into .pack-into
-          .ensures .1 .0),
-      letters-front _ _ _ _ (at-pack-into .pack-into .ensures .0) (let few = letters-few _ _ (entry .pre) (at-pack-into .pack-into .ensures .0) in omega
-          (arith, few, length-replicate {A = ℕ} 65536 0)) (at-pack-into .pack-into .ensures .1 .1),
+      records-front _ (MOST-CLASSES * COMPACT-RECORD) _ (let few = table-number _ (entry .pre) in omega (arith, few)) (at-pack-into .pack-into .ensures .1 .0),
+      letters-front _ (MOST-CLASSES * LETTERS-RECORD) _ _ (at-pack-into .pack-into .ensures .0)
+          (let few = letters-few _ _ (entry .pre) (at-pack-into .pack-into .ensures .0) in omega (arith, few)) (at-pack-into .pack-into .ensures .1 .1),
     )
 
 pub pack-good-spec : {M : Type 1} → statement M
 pack-good-spec =
     tie.close
     (tie.spec
-    (λ c. search needs)
-    (λ c. search needs)
+    slice-aggregate-pack-into
+    slice-aggregate-pack-into-2
     pack-into-requires
     (λ c. search needs)
     array-share-prefix-packed

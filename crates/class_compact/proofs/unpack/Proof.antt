@@ -13,8 +13,8 @@ returns c =
     rw (c .not-counted .ensures)
     (unpack-short _ _ _ (sym (at-bad-compact .bad-compact .ensures) ∙ at-enum-told .enum-told .given .1) (c .before .if1 .taken))
 
-cast-t14 : tie.Need-cast-t14
-cast-t14 c =
+cast-t13 : tie.Need-cast-t13
+cast-t13 c =
     let at-enum-told = c .before .before .before .before .before in
     let at-bad-compact = at-enum-told .before .before in
     let few = allowed-few _ _ (sym (at-bad-compact .bad-compact .ensures) ∙ at-enum-told .enum-told .given .1) in omega (arith, few)
@@ -28,7 +28,7 @@ returns-3 c =
     let at-if1 = at-unpack-into .before .before in
     let at-enum-told = at-if1 .before in
     let at-bad-compact = at-enum-told .before .before in
-    rw (at-unpack-into .unpack-into .ensures)
+    rw (at-unpack-into .unpack-into .ensures .1)
     (unpack-done _ _ _ (sym (at-bad-compact .bad-compact .ensures) ∙ at-enum-told .enum-told .given .1) (at-if1 .if1 .left))
 
 pub unpack-spec : {M : Type 1} → statement M
@@ -42,7 +42,7 @@ unpack-spec =
     (λ c κs. search needs)
     returns
     (λ c κs. search needs)
-    cast-t14
+    cast-t13
     returns-2
     (λ c. search needs)
     returns-3)

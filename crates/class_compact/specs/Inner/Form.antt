@@ -1,35 +1,26 @@
--- Words of inner contracts, beside Form: `Place`, `Mark`, `Sized`, `Filled`. No public promise rests on them.
+-- Words of inner contracts, beside Form: `Place`, `Sized`, `Filled`. No public promise rests on them.
 -- Assumes nothing.
-use Prim.Native.Nat.{ℕ, _+_, _*_, _/_, _%_, _≤_, _<_}
+use Prim.Native.Nat.{ℕ, _%_, _≤_, _<_}
 use mathlib.Core.Path.{_≡_}
 use mathlib.Core.Bool.{Bool, not, _||_}
 use mathlib.Core.List.{List}
 use lib.ListN.{length}
 use lib.Dec.{eqb, ltb}
 use Rattle.base.specs.Limits.{MOST-CLASSES}
-use Rattle.class_compact.specs.Form.{COMPACT-RECORD, compactRecords, placeAt, baseAt, lowerAt}
+use Rattle.class_compact.specs.Form.{COMPACT-RECORD, compactRecords, placeAt}
 use Rattle.class_compact.specs.Unpacked.{unpacked}
+
+-- what the upper half of a word, and the upper of two words, are counted in
+abbrev pub HALF : ℕ
+HALF = 65536
+
+abbrev pub WORD : ℕ
+WORD = 4294967296
 
 -- what `place_of` ensures: the place, and that it has 16 bits
 pub record Place (c : List ℕ) (i r : ℕ) : Type 0 where
   pub is : r ≡ placeAt c i
-  pub small : r < 65536
-
--- how many marks there are
-abbrev pub MARKS : ℕ
-MARKS = 32768
-
--- a number that is the same for the same letters, and seldom for others
-unfoldable pub markOf : ℕ → ℕ → ℕ
-markOf base lower = (base % 65536 * 127 + (lower % 65536 + lower / 65536 * 16381)) % MARKS
-
--- that of the letters k
-unfoldable pub markAt : List ℕ → ℕ → ℕ
-markAt l k = markOf (baseAt l k) (lowerAt l k)
-
-pub record Mark (mark r : ℕ) : Type 0 where
-  pub is : r ≡ mark
-  pub small : r < MARKS
+  pub small : r < HALF
 
 -- the class list's length or number is not allowed
 unfoldable pub wrongList : List ℕ → Bool

@@ -1,10 +1,21 @@
 -- The front of the room is the expansion. Assumes nothing.
-use Rattle.class_compact.proofs.Laws.Calls.{expansion-front}
+use Prim.Native.Nat.{_*_}
+use Rattle.base.specs.Limits.{CLASS-RECORD, MOST-CLASSES}
+use Rattle.class_compact.proofs.Laws.Links.{zeros-length}
+use Rattle.class_compact.proofs.Laws.Calls.{room-fits, expansion-front}
 use borrow.Author.Needs.{needs}
 use lib.ListN.{length-take}
 use native.Mathlib.Omega.{arith}
 use Rattle.md_compact.proofs.score_expanded.Statement.{statement}
 use Rattle.md_compact.proofs.score_expanded.Tie as tie
+
+slice-aggregate-unpack-into : tie.Need-slice-aggregate-unpack-into
+slice-aggregate-unpack-into c = zeros-length (MOST-CLASSES * CLASS-RECORD)
+
+unpack-into-requires : tie.Need-unpack-into-requires
+unpack-into-requires c κs =
+    let entry = c .before .before .before .before .before in
+    room-fits (MOST-CLASSES * CLASS-RECORD) _ (omega (arith, entry .pre .few))
 
 slice-aggregate-score-table : tie.Need-slice-aggregate-score-table
 slice-aggregate-score-table c =
@@ -15,14 +26,17 @@ score-table-requires : tie.Need-score-table-requires
 score-table-requires c κs =
     let at-unpack-into = c .before .before in
     let entry = at-unpack-into .before .before .before .before .before .before in
-    record { sized = entry .pre; is = expansion-front _ _ _ _ (omega (arith, entry .pre .few)) (at-unpack-into .unpack-into .ensures) }
+    record {
+      filled = record { sized = entry .pre; is = expansion-front _ _ (MOST-CLASSES * CLASS-RECORD) _ (omega (arith, entry .pre .few)) (at-unpack-into .unpack-into .ensures .1) };
+      order = at-unpack-into .unpack-into .ensures .0;
+    }
 
 pub score-expanded-spec : {M : Type 1} → statement M
 score-expanded-spec =
     tie.close
     (tie.spec
-    (λ c. search needs)
-    (λ c κs. search needs)
+    slice-aggregate-unpack-into
+    unpack-into-requires
     (λ c. search needs)
     (λ c. search needs)
     slice-aggregate-score-table

@@ -3,6 +3,7 @@ use Prim.Native.Nat.{_-_, _<_}
 use Rattle.class_compact.proofs.Loops.Seeking.{Seeking, seeking-start, seeking-hit, seeking-more, seeking-end}
 use Rattle.class_compact.specs.Check.{badLetters, firstBadLetters}
 use Rattle.class_compact.specs.Form.{lettersIn}
+use Rattle.class_compact.specs.Inner.Form.{HALF}
 use borrow.Author.Needs.{needs}
 use mathlib.Core.Path.{sym, _∙_}
 use native.Mathlib.Omega.{arith}
@@ -10,7 +11,7 @@ use Rattle.class_compact.proofs.fault.first_bad_letters.Statement.{stat
 use Rattle.class_compact.proofs.fault.first_bad_letters.Tie as tie
 
 abbrev Inv-loop : tie.InvT-loop
-Inv-loop records letters m k₀ k = Seeking (badLetters records letters) (lettersIn letters) k × (k < 65536)
+Inv-loop records letters m k₀ k = Seeking (badLetters records letters) (lettersIn letters) k × (k < HALF)
 
 abbrev μ-loop : tie.MeasureT-loop
 μ-loop records letters m k₀ k = m - k

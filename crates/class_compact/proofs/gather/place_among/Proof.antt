@@ -1,49 +1,104 @@
--- What is looked for in the list of letters is found at its place, and what no record before has stands behind them. Assumes nothing.
-use Rattle.class_compact.proofs.Laws.Numbering.{found-few}
-use Rattle.class_compact.proofs.Laws.Numbering.{place-none, place-found, place-unmet}
+-- What is noted has its place, and what is not comes behind all that are. Assumes nothing.
+use Rattle.class_compact.proofs.Laws.Among.{among-none, among-few, among-linked, among-old, among-new}
 use Rattle.class_compact.specs.Packed.{plain}
-use borrow.Author.Tests.{not-true}
 use native.Mathlib.Omega.{arith}
 use Rattle.class_compact.proofs.gather.place_among.Statement.{statement}
 use Rattle.class_compact.proofs.gather.place_among.Tie as tie
 
 record-at-requires : tie.Need-record-at-requires
-record-at-requires c κs = c .before .before .pre .0 .inside
+record-at-requires c κs =
+    let entry = c .before .before in
+    entry .pre .inside
 
 returns : tie.Need-returns
 unfolding plain
-returns c = (place-none _ _ (rw (c .before .before .before .record-at .ensures) at (c .if1 .taken)), omega arith)
+returns c =
+    let at-record-at = c .before .before .before in
+    let entry = at-record-at .before .before .before in
+    among-none _ _ _ _ _ (entry .pre) (rw (at-record-at .record-at .ensures) at (c .if1 .taken))
 
-add-result : tie.Need-add-result
-add-result c = let entry = c .before .before .before .before .before .before .before in omega (arith, entry .pre .0 .room)
+slot-for-requires : tie.Need-slot-for-requires
+slot-for-requires c κs =
+    let entry = c .before .before .before .before .before .before .before in
+    among-linked _ _ _ _ _ (entry .pre)
+
+mul-place : tie.Need-mul-place
+mul-place c =
+    let entry = c .before .before .before .before .before .before .before .before in
+    omega (arith, c .slot-for .ensures .walked .below, among-few _ _ _ _ _ (entry .pre))
+
+element-copy-out-place : tie.Need-element-copy-out-place
+element-copy-out-place c =
+    let entry = c .before .before .before .before .before .before .before .before in
+    omega (arith, c .slot-for .ensures .walked .below, among-few _ _ _ _ _ (entry .pre))
+
+cast-place : tie.Need-cast-place
+cast-place c =
+    let at-slot-for = c .before in
+    let entry = at-slot-for .before .before .before .before .before .before .before .before in
+    omega (arith, entry .pre .linked .small (at-slot-for .slot-for .result), among-few _ _ _ _ _ (entry .pre))
 
 returns-2 : tie.Need-returns-2
 unfolding plain
 returns-2 c =
-    let at-record-at = c .before .before .before .before in
-    let entry = at-record-at .before .before .before in (
-      place-unmet _ _ _ _ (entry .pre .0) _ (entry .pre .1) (not-true _ (c .if2 .taken)) (rw (at-record-at .record-at .ensures) at (c .before .if1 .left)),
-      omega arith,
-    )
+    let at-slot-for = c .before .before in
+    let at-if1 = at-slot-for .before .before in
+    let at-record-at = at-if1 .before .before .before in
+    let entry = at-record-at .before .before .before in
+    among-old _ _ _ _ _ (entry .pre) _ _ _ (rw (at-record-at .record-at .ensures) at (at-if1 .if1 .left)) (rw (at-record-at .record-at .ensures)) (rw (at-record-at .record-at .ensures))
+    (at-slot-for .slot-for .ensures) (c .if2 .taken)
 
-find-letters-requires : tie.Need-find-letters-requires
-find-letters-requires c κs = c .before .before .before .before .before .before .before .pre .0 .room
+add-links : tie.Need-add-links
+add-links c =
+    let entry = c .before .before .before .before .before .before .before .before .before .before in
+    omega (arith, among-few _ _ _ _ _ (entry .pre))
 
-add-result-2 : tie.Need-add-result-2
-add-result-2 c =
-    let entry = c .before .before .before .before .before .before .before .before in
-    let few = found-few _ _ _ (c .find-letters .ensures) in omega (arith, few, entry .pre .0 .room)
+cast-links : tie.Need-cast-links
+cast-links c =
+    let entry = c .before .before .before .before .before .before .before .before .before .before in
+    omega (arith, among-few _ _ _ _ _ (entry .pre))
+
+mul-links : tie.Need-mul-links
+mul-links c =
+    let at-slot-for = c .before .before in
+    let entry = at-slot-for .before .before .before .before .before .before .before .before in
+    omega (arith, at-slot-for .slot-for .ensures .walked .below, among-few _ _ _ _ _ (entry .pre))
+
+element-write-links : tie.Need-element-write-links
+element-write-links c =
+    let at-slot-for = c .before .before in
+    let entry = at-slot-for .before .before .before .before .before .before .before .before in
+    omega (arith, at-slot-for .slot-for .ensures .walked .below, among-few _ _ _ _ _ (entry .pre))
+
+add-result : tie.Need-add-result
+add-result c =
+    let entry = c .before .before .before .before .before .before .before .before .before .before in
+    omega (arith, among-few _ _ _ _ _ (entry .pre))
 
 returns-3 : tie.Need-returns-3
 unfolding plain
 returns-3 c =
-    let at-record-at = c .before .before .before .before .before in
-    let entry = at-record-at .before .before .before in (
-      place-found _ _ _ _ (entry .pre .0) _ _ _ (rw (at-record-at .record-at .ensures) at (c .before .before .if1 .left)) (rw (at-record-at .record-at .ensures))
-          (rw (at-record-at .record-at .ensures)) (c .find-letters .ensures),
-      let few = found-few _ _ _ (c .find-letters .ensures) in omega (arith, few),
-    )
+    let at-slot-for = c .before .before in
+    let at-if1 = at-slot-for .before .before in
+    let at-record-at = at-if1 .before .before .before in
+    let entry = at-record-at .before .before .before in
+    among-new _ _ _ _ _ (entry .pre) _ _ _ (rw (at-record-at .record-at .ensures) at (at-if1 .if1 .left)) (rw (at-record-at .record-at .ensures)) (rw (at-record-at .record-at .ensures))
+    (at-slot-for .slot-for .ensures) (c .if2 .left)
 
 pub place-among-spec : {M : Type 1} → statement M
 place-among-spec =
-    tie.close (tie.spec record-at-requires returns add-result returns-2 find-letters-requires add-result-2 returns-3)
+    tie.close
+    (tie.spec
+    record-at-requires
+    returns
+    slot-for-requires
+    mul-place
+    element-copy-out-place
+    cast-place
+    returns-2
+    add-links
+    cast-links
+    mul-links
+    element-write-links
+    add-result
+    returns-3)

@@ -12,7 +12,7 @@ returns c =
     let at-beyond-table = at-why .before .before in
     let entry = at-beyond-table .before .before .before .before .before .before .before in
     lines-refused _ _ _ _ _ _ _ _
-    (sym (filled-refused _ _ (entry .pre .sized) _ (sym (at-beyond-table .beyond-table .ensures) ∙ at-why .why .given .1)))
+    (sym (filled-refused _ _ (entry .pre .filled .sized) _ (sym (at-beyond-table .beyond-table .ensures) ∙ at-why .why .given .1)))
     (c .first-of-burst .ensures)
 
 returns-2 : tie.Need-returns-2
@@ -21,7 +21,7 @@ returns-2 c =
     let at-enum-told = at-score-lines .before .before in
     let at-beyond-table = at-enum-told .before .before in
     let entry = at-beyond-table .before .before .before .before .before .before .before in
-    let same = lines-scored _ _ _ _ _ _ (entry .pre .sized) _ (entry .pre .is) (sym (at-beyond-table .beyond-table .ensures) ∙ at-enum-told .enum-told .given .1) in
+    let same = lines-scored _ _ _ _ _ _ (entry .pre .filled .sized) _ (entry .pre .filled .is) (sym (at-beyond-table .beyond-table .ensures) ∙ at-enum-told .enum-told .given .1) in
     (at-score-lines .score-lines .ensures .0 ∙ same .0, at-score-lines .score-lines .ensures .1 ∙ same .1)
 
 pub score-lines-table-spec : {M : Type 1} → statement M

@@ -12,14 +12,14 @@ returns c =
     let at-beyond-table = at-why .before .before in
     let entry = at-beyond-table .before .before .before .before .before .before in
     bytes-refused _ _ _ _ _ _ _
-    (sym (filled-refused _ _ (entry .pre .sized) _ (sym (at-beyond-table .beyond-table .ensures) ∙ at-why .why .given .1)))
+    (sym (filled-refused _ _ (entry .pre .filled .sized) _ (sym (at-beyond-table .beyond-table .ensures) ∙ at-why .why .given .1)))
     (c .first-of-bytes .ensures)
 
 returns-2 : tie.Need-returns-2
 returns-2 c =
     let at-beyond-table = c .before .before .before in
     let entry = at-beyond-table .before .before .before .before .before .before in
-    c .mess-ratio-utf8 .ensures ∙ bytes-scored _ _ _ _ _ (entry .pre .sized) _ (entry .pre .is)
+    c .mess-ratio-utf8 .ensures ∙ bytes-scored _ _ _ _ _ (entry .pre .filled .sized) _ (entry .pre .filled .is)
     (sym (at-beyond-table .beyond-table .ensures) ∙ c .before .enum-told .given .1)
 
 pub score-utf8-table-spec : {M : Type 1} → statement M

@@ -1,10 +1,10 @@
 -- The same number, and a remainder is below what is divided by. Assumes nothing.
-use Rattle.class_compact.specs.Inner.Form.{markOf}
+use Rattle.class_compact.specs.Inner.Links.{markOf}
 use borrow.Author.Needs.{needs}
 use mathlib.Core.Path.{refl}
 use native.Mathlib.Omega.{arith}
-use Rattle.class_compact.proofs.form.mark_for.Statement.{statement}
-use Rattle.class_compact.proofs.form.mark_for.Tie as tie
+use Rattle.class_compact.proofs.links.mark_for.Statement.{statement}
+use Rattle.class_compact.proofs.links.mark_for.Tie as tie
 
 returns : tie.Need-returns
 unfolding markOf
