@@ -2,6 +2,7 @@
 ghost use mathlib.Core.Path.{_≡_};
 ghost use Prim.Native.Nat.{_+_, _*_, _≤_};
 ghost use lib.ListN.{length};
+ghost use Rattle.base.specs.Limits.{LONGEST-TEXT};
 ghost use Rattle.base.specs.declared.Cause.the-variants.{Allowed};
 ghost use Rattle.base.specs.Put.{put};
 ghost use Rattle.md.specs.Inner.Lent.{badLent};
@@ -17,9 +18,12 @@ use base::Counted;
 use class_builtin::Table;
 use classes::HINTS;
 use md::Scored;
-use md_utf8::rooms::SHORT;
 use md_utf8::rooms::score_larger;
+use md_utf8::rooms::score_taken;
 use md_utf8::rooms::through;
+
+// Places of the room that is lent to each line: a line of so many bytes is read in one pass.
+const ROOM: usize = 512;
 
 // The score of one line, read as bytes are that come alone. Most lines go through the room that is lent, so that none is cleared for them.
 fn score_line(
@@ -31,9 +35,12 @@ fn score_line(
     pairs: &[u8],
     room: &mut [u32],
 ) -> Scored
-    requires { ⌜ Lendable threshold (now table) (now classes) (now pairs) ⌝ }
+    requires { ⌜ Lendable threshold (now table) (now classes) (now pairs) × (length (now room) ≤ LONGEST-TEXT) ⌝ }
     ensures { λ r. ⌜ r ≡ messRatioUtf8 (now (line .entry)) threshold (now (classes .entry)) (now (pairs .entry)) ⌝ }
 {
+    if line.len() <= room.len() {
+        return score_taken(line, room, threshold, hints, table, classes, pairs);
+    }
     match utf8::count_utf8(line) {
         Counted::Refused(why) => Scored::Refused(why),
         Counted::Count(count) => {
@@ -58,7 +65,7 @@ fn put_line(
     out: &mut [u32],
     at: usize,
 )
-    requires { ⌜ Lendable threshold (now table) (now classes) (now pairs) × (at + bursts.NUMBERS-PER-LINE ≤ length (now out)) ⌝ }
+    requires { ⌜ Lendable threshold (now table) (now classes) (now pairs) × (length (now room) ≤ LONGEST-TEXT) × (at + bursts.NUMBERS-PER-LINE ≤ length (now out)) ⌝ }
     ensures { λ _. ⌜ now (out .exit) ≡ put (now (out .entry)) at (bursts.rowOf threshold (now (classes .entry)) (now (pairs .entry)) (now (line .entry))) ⌝ }
 {
     let row = row_of(score_line(line, threshold, hints, table, classes, pairs, room));
@@ -72,7 +79,7 @@ pub fn put_rows(bytes: &[u8], threshold: f32, classes: &[u8], pairs: &[u8], out:
 {
     let table = class_builtin::table();
     let mut hints = [0; HINTS];
-    let mut room = [0u32; SHORT];
+    let mut room = [0u32; ROOM];
     let mut from = 0;
     let mut at = 0;
     while from < bytes.len() {

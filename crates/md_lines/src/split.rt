@@ -3,12 +3,16 @@ ghost use mathlib.Core.Path.{_≡_};
 ghost use Prim.Native.Nat.{_+_, _≤_};
 ghost use lib.ListN.{length};
 ghost use Rattle.md_lines.specs.Lines.{linesOf};
-ghost use Rattle.md_lines.specs.Inner.Lines.{Passing, LineEnd, endsOf, noEndOn};
+ghost use Rattle.md_lines.specs.Inner.Lines.{BLOCK, Passing, LineEnd, endsOf, noEndOn};
 ghost use Rattle.md_lines.specs.Burst as bursts;
 use base::one;
+use base::wide;
 
 // The byte at which a line ends.
 const LINE_END: u8 = 0x0A;
+
+// Bytes whose ends are counted in a byte.
+const BLOCK: usize = 128;
 
 // Whether none of the eight bytes from i on ends a line. Plain tests joined by &, of which the compiler makes one load and one test.
 fn eight_in_line(b: &[u8], i: usize) -> bool
@@ -55,18 +59,33 @@ pub fn end_of_line(bytes: &[u8], from: usize) -> usize
     j
 }
 
-// How many bytes end a line. A plain sum with no way out of the loop, which the compiler widens.
+// How many of so few bytes end a line. A plain sum with no way out of the loop, in a byte, so that the compiler adds sixteen at a time.
+fn ends_in_block(bytes: &[u8]) -> u8
+    requires { ⌜ length (now bytes) ≤ BLOCK ⌝ }
+    ensures { λ r. ⌜ r ≡ endsOf (now (bytes .entry)) ⌝ }
+{
+    let mut n = 0;
+    let mut i = 0;
+    while i < bytes.len() {
+        n += one(bytes[i] == LINE_END) as u8;
+        i += 1;
+    }
+    n
+}
+
+// How many bytes end a line: block after block, and what is left.
 fn count_ends(bytes: &[u8]) -> u32
     requires { ⌜ length (now bytes) ≤ bursts.LONGEST-BURST ⌝ }
     ensures { λ r. ⌜ r ≡ endsOf (now (bytes .entry)) ⌝ }
 {
     let mut n = 0;
     let mut i = 0;
-    while i < bytes.len() {
-        n += one(bytes[i] == LINE_END);
-        i += 1;
+    while BLOCK <= bytes.len() - i {
+        let next = i + BLOCK;
+        n += wide(ends_in_block(&bytes[i..next]));
+        i = next;
     }
-    n
+    n + wide(ends_in_block(&bytes[i..bytes.len()]))
 }
 
 // The number of lines: the ends, and one more where the last byte is none.

@@ -2,17 +2,21 @@
 ghost use mathlib.Core.Path.{_≡_};
 ghost use Prim.Native.Nat.{_≤_};
 ghost use lib.ListN.{length};
+ghost use Rattle.base.specs.Limits.{LONGEST-TEXT};
 ghost use Rattle.utf8.specs.Text.{textOf};
 ghost use Rattle.utf8.specs.Inner.Readable.{Readable};
 ghost use Rattle.md.specs.MessRatio.{messRatio};
 ghost use Rattle.md_utf8.specs.Inner.Lendable.{Lendable};
 ghost use Rattle.md_utf8.specs.Inner.Rooms as rooms;
+ghost use Rattle.md_utf8.specs.ScoreUtf8.{messRatioUtf8};
+use base::Counted;
 use base::limits::LONGEST_TEXT;
 use class_builtin::Table;
 use classes::HINTS;
 use md::Limit;
 use md::Scored;
 use md::scan::scan_text_in;
+use utf8::taking::take_utf8;
 
 // Code points of a text that goes through the small room, which costs little to clear: most console lines.
 pub const SHORT: usize = 256;
@@ -129,4 +133,30 @@ pub fn through(
         classes,
         pairs,
     )
+}
+
+// The score of bytes that were not counted, taken in one pass into a room that has a place for each: most lines of a burst.
+pub fn score_taken(
+    bytes: &[u8],
+    room: &mut [u32],
+    threshold: f32,
+    hints: &mut [usize; HINTS],
+    table: &Table,
+    classes: &[u8],
+    pairs: &[u8],
+) -> Scored
+    requires { ⌜ (length (now bytes) ≤ length (now room)) × (length (now bytes) ≤ LONGEST-TEXT) × Lendable threshold (now table) (now classes) (now pairs) ⌝ }
+    ensures { λ r. ⌜ r ≡ messRatioUtf8 (now (bytes .entry)) threshold (now (classes .entry)) (now (pairs .entry)) ⌝ }
+{
+    match take_utf8(bytes, room) {
+        Counted::Refused(why) => Scored::Refused(why),
+        Counted::Count(count) => scan_text_in(
+            &room[..count as usize],
+            Limit::Threshold(threshold),
+            hints,
+            table,
+            classes,
+            pairs,
+        ),
+    }
 }

@@ -3,12 +3,12 @@
 use Prim.Native.Nat.{ℕ, suc, _+_, _-_, _≤_, _<_}
 use mathlib.Core.Path.{_≡_, refl, sym, ap, _∙_}
 use mathlib.Core.Bool.{Bool, true, false, not}
-use mathlib.Core.List.{List, [], _∷_}
+use mathlib.Core.List.{List, [], _∷_, _++_}
 use native.Mathlib.Numerals.{add-one}
 use native.Mathlib.Omega.{arith}
 use lib.Dec.{eqb}
-use lib.ListN.{length, drop, getD, drop-of-length-le}
-use lib.Seq.{drop-cons}
+use lib.ListN.{length, take, drop, getD, drop-of-length-le, take-append-drop}
+use lib.Seq.{drop-cons, drop-drop}
 use borrow.Author.Tests.{eq-eqb, ne-eqb}
 use Rattle.base.specs.Limits.{NEWLINE}
 use Rattle.base.specs.Numbers.{bump}
@@ -33,6 +33,12 @@ ends-few : (bytes : List ℕ) → endsOf bytes ≤ length bytes
 ends-few [] = rw ends-none (omega arith)
 ends-few (b ∷ bs) = rw (ends-cons b bs) (omega (arith, ends-few bs, bump-few (eqb b NEWLINE)))
 
+ends-both : (xs ys : List ℕ) → endsOf (xs ++ ys) ≡ endsOf xs + endsOf ys
+ends-both [] ys = let e : endsOf ([] ++ ys) ≡ endsOf ys = refl in omega (arith, e, ends-none)
+ends-both (x ∷ xs) ys =
+    let e : endsOf ((x ∷ xs) ++ ys) ≡ bump (eqb x NEWLINE) + endsOf (xs ++ ys) = ends-cons x (xs ++ ys) in
+    omega (arith, e, ends-cons x xs, ends-both xs ys)
+
 -- a number of ends that was counted is as small as the bytes are few
 pub ends-below : (bytes : List ℕ) (n most : ℕ) → n ≡ endsOf bytes → length bytes ≤ most → n ≤ most
 ends-below bytes n most e h = omega (arith, e, h, ends-few bytes)
@@ -52,6 +58,16 @@ module _ (bytes : List ℕ) where
         drop-cons bytes i 0 h ∙ ap (λ (m : ℕ). getD bytes i 0 ∷ drop m bytes) (sym (add-one i)) in
         let s : endsOf (drop i bytes) ≡ bump (eqb (getD bytes i 0) NEWLINE) + endsOf (drop (i + 1) bytes) =
         ap endsOf d ∙ ends-cons (getD bytes i 0) (drop (i + 1) bytes) in
+        record { whole = omega (arith, c .whole, s, e) }
+
+    -- the ends of a part more
+    pub counting-part : (j k : ℕ) → k ≡ endsOf (take (j - i) (drop i bytes)) → i ≤ j → Counting bytes (n + k) j
+    counting-part j k e h =
+        let z : i + (j - i) ≡ j = omega (arith, h) in
+        let d : drop i bytes ≡ take (j - i) (drop i bytes) ++ drop j bytes =
+        sym (take-append-drop (j - i) (drop i bytes))
+        ∙ ap (λ (r : List ℕ). take (j - i) (drop i bytes) ++ r) (drop-drop (j - i) i bytes ∙ ap (λ (m : ℕ). drop m bytes) z) in
+        let s = ap endsOf d ∙ ends-both (take (j - i) (drop i bytes)) (drop j bytes) in
         record { whole = omega (arith, c .whole, s, e) }
 
     pub counting-few : n ≤ length bytes

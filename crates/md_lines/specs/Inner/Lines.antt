@@ -40,6 +40,10 @@ unfoldable pub noEndOn : List ℕ → ℕ → ℕ → Bool
 noEndOn bytes i zero = noEnd bytes i
 noEndOn bytes i (suc k) = noEndOn bytes i k && noEnd bytes (i + suc k)
 
+-- how many bytes are counted at a time
+abbrev pub BLOCK : ℕ
+BLOCK = 128
+
 -- how many bytes are 0A
 unfoldable pub endsOf : List ℕ → ℕ
 endsOf [] = 0

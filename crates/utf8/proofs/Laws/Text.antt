@@ -12,11 +12,8 @@ use borrow.Author.Tests.{lt-ltb, le-ltb, eqb-true, eqb-false, eq-eqb, ne-eqb}
 use Rattle.base.proofs.Laws.Tests.{by-test, cond-same, split}
 use Rattle.utf8_table.specs.WellFormed.{row, byteAt, stepAt}
 use Rattle.utf8_table.proofs.Laws.Sound.{Sound, row-sound}
-use Rattle.utf8.specs.Text.{Reading, ended, after, steps, reading, faultAt, wellFormed}
-
--- what is read from the place i on
-unfoldable pub from : List ℕ → ℕ → Reading
-from bytes i = steps (length bytes - i) bytes i
+use Rattle.utf8.specs.Text.{Reading, ended, after, steps, reading, textOf, faultAt, wellFormed}
+use Rattle.utf8.specs.Inner.Taking.{from}
 
 -- one code point before a reading
 abbrev more : ℕ → Reading → Reading
@@ -109,6 +106,18 @@ module _ (bytes : List ℕ) where
   stop-after (suc n) i =
       by-test (λ (r : Reading). i ≤ r .stop) (eqb (stepAt bytes i .size) 0) _ _
       (λ e. omega arith) (λ e. let h = stop-after n (i + stepAt bytes i .size) in omega arith)
+
+  -- n sequences are at most n code points, so that a text has no more of them than its bytes are
+  few-steps : (n i : ℕ) → length (steps n bytes i .text) ≤ n
+  unfolding steps
+  few-steps zero i = omega arith
+  few-steps (suc n) i =
+      by-test (λ (r : Reading). length (r .text) ≤ suc n) (eqb (stepAt bytes i .size) 0) _ _
+      (λ e. omega arith) (λ e. let h = few-steps n (i + stepAt bytes i .size) in omega arith)
+
+  pub text-few : length (textOf bytes) ≤ length bytes
+  unfolding reading
+  text-few = few-steps (length bytes) 0
 
   pub fault-within : faultAt bytes ≤ length bytes
   unfolding reading

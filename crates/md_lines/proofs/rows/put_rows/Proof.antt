@@ -1,6 +1,6 @@
 -- The rows of the lines up to `from` fill the first `at` places, and the rest is as it was. The room keeps its length. Assumes nothing.
 use mathlib.Core.Path.{_≡_}
-use Rattle.md_utf8.specs.Inner.Rooms.{SHORT}
+use Rattle.md_lines.specs.Inner.Room.{ROOM}
 use Rattle.md_utf8.proofs.Laws.Lendable.{lendable}
 use Prim.Native.Nat.{_+_, _-_}
 use native.Mathlib.Omega.{arith}
@@ -12,7 +12,7 @@ use Rattle.md_lines.proofs.rows.put_rows.Tie as tie
 
 abbrev Inv-loop : tie.InvT-loop
 Inv-loop bytes threshold classes pairs out₀ table hints₀ room₀ from₀ at₀ out hints room from at =
-    Filling threshold classes pairs bytes out₀ out from at × (length room ≡ SHORT)
+    Filling threshold classes pairs bytes out₀ out from at × (length room ≡ ROOM)
 
 abbrev μ-loop : tie.MeasureT-loop
 μ-loop bytes threshold classes pairs out₀ table hints₀ room₀ from₀ at₀ out hints room from at = length bytes + 1 - from
@@ -33,6 +33,7 @@ put-line-requires c κs =
     let turn = c .before .before .before .before .before .before .loop-test in
     let entry = c .before .before .before .before .before .before .before .before .before .before .before .before .before .pre in (
       lendable _ _ _ _ (entry .1) (at-table .ensures),
+      omega (arith, at-loop .inv .1),
       filling-room _ _ _ _ _ _ _ _ (at-loop .inv .0) _ (turn .taken) (ended .ensures),
     )
 
