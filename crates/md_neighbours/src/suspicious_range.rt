@@ -63,7 +63,13 @@ impl SuspiciousRange {
         ensures { λ r. ⌜ r ≡ feed self c suspicious ⌝ }
     {
         if is_set(c.flags, UNPRINTABLE) {
-            return self;
+            // field by field: copied whole, three bytes that mean nothing go with it, and the compiler carries them through the scan
+            return SuspiciousRange {
+                characters: self.characters,
+                suspicious: self.suspicious,
+                seen: self.seen,
+                last: self.last,
+            };
         }
         if forgets(c.flags) {
             return SuspiciousRange {
