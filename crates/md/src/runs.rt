@@ -213,13 +213,16 @@ fn fed_word(
     }
 }
 
-// Whether a space stands at i, and no checkpoint before it.
+// Whether a space stands at i, and no checkpoint before it. The checkpoint is asked first, since the loop asks the same after the step.
 fn before_space(text: &[u32], i: usize) -> bool
     requires { ⌜ 0 < i ⌝ }
     ensures { λ r. ⌜ (r ≡ true → Spaced (now (text .entry)) i) ⌝ }
 {
+    if at_checkpoint(text.len(), i - 1) {
+        return false;
+    }
     if i < text.len() {
-        return (text[i] == SPACE) & !at_checkpoint(text.len(), i - 1);
+        return text[i] == SPACE;
     }
     false
 }

@@ -72,12 +72,7 @@ impl SuspiciousRange {
             };
         }
         if forgets(c.flags) {
-            return SuspiciousRange {
-                characters: self.characters + 1,
-                suspicious: self.suspicious,
-                seen: false,
-                last: 0,
-            };
+            return self.forget();
         }
         let range = c.range;
         SuspiciousRange {
@@ -103,7 +98,7 @@ impl SuspiciousRange {
     }
 
     // A printable character that forgets the last one.
-    pub fn forget(self) -> SuspiciousRange
+    fn forget(self) -> SuspiciousRange
         requires { ⌜ Room self ⌝ }
         ensures { λ r. ⌜ r ≡ forgotten self ⌝ }
     {

@@ -513,10 +513,6 @@ module _ (classes pairs text : List ℕ) (i : ℕ) (r : Fed) (g : Tables classes
       advanced-both classes pairs text i r _ a (p .quiet) (advanced-space classes pairs text (r .state) spaceClass (r .next) spaced-before t refl e)
 
 -- what the tests for it say
-pub spaced-is : (text : List ℕ) (i : ℕ) (q : Bool) → i < length text → q ≡ checkpoint (length text) (i - 1) → eqb (getD text i 0) SPACE && not q ≡ true → Spaced text i
-spaced-is text i q h e t =
-    record {
-      inside = h;
-      space = sym (getD-any text i 0 NEWLINE h) ∙ eqb-true (getD text i 0) SPACE (and-l (eqb (getD text i 0) SPACE) (not q) t);
-      quiet = sym e ∙ not-true q (and-r (eqb (getD text i 0) SPACE) (not q) t);
-    }
+pub spaced-is : (text : List ℕ) (i : ℕ) (q : Bool) → q ≡ checkpoint (length text) (i - 1) → q ≡ false → i < length text → eqb (getD text i 0) SPACE ≡ true → Spaced text i
+spaced-is text i q e f h t =
+    record { inside = h; space = sym (getD-any text i 0 NEWLINE h) ∙ eqb-true (getD text i 0) SPACE t; quiet = sym e ∙ f }

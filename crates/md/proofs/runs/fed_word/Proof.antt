@@ -28,8 +28,10 @@ runs-on-requires c κs =
 
 fed-uncased-requires : tie.Need-fed-uncased-requires
 fed-uncased-requires c κs =
+    let run = c .before .before .before .before .runs-on .ensures in
+    let right = c .before .before .before .wrong-stop .ensures in
     let asked = c .before .before .before .before .before .before .before .before .before .before .before .pre in
-    let lent = lent-step _ _ _ _ _ _ (asked .0) _ (asked .1) _ _ (c .before .before .before .before .runs-on .ensures) (c .before .before .before .wrong-stop .ensures) (c .before .before .if2 .taken) in
+    let lent = lent-step _ _ _ _ _ _ (asked .0) _ (asked .1) _ _ run right (c .before .before .if2 .taken) in
     (asked .0, lent, sym (c .before .is-uncased .ensures) ∙ c .if3 .taken)
 
 returns-2 : tie.Need-returns-2
@@ -37,8 +39,10 @@ returns-2 c = c .fed-uncased .ensures
 
 fed-cased-requires : tie.Need-fed-cased-requires
 fed-cased-requires c κs =
+    let run = c .before .before .before .before .before .before .runs-on .ensures in
+    let right = c .before .before .before .before .before .wrong-stop .ensures in
     let asked = c .before .before .before .before .before .before .before .before .before .before .before .before .before .pre in
-    let lent = lent-step _ _ _ _ _ _ (asked .0) _ (asked .1) _ _ (c .before .before .before .before .before .before .runs-on .ensures) (c .before .before .before .before .before .wrong-stop .ensures) (c .before .before .before .before .if2 .taken) in
+    let lent = lent-step _ _ _ _ _ _ (asked .0) _ (asked .1) _ _ run right (c .before .before .before .before .if2 .taken) in
     (asked .0, lent, sym (c .before .is-cased .ensures) ∙ c .if4 .taken)
 
 returns-3 : tie.Need-returns-3
@@ -50,10 +54,14 @@ fed-requires c κs =
     (before-room _ _ _ _ _ _ asked, asked .tables .fits, before-last _ _ _ _ _ _ asked, before-range _ _ _ _ _ _ asked)
 
 add-t15 : tie.Need-add-t15
-add-t15 c = let asked = c .before .before .before .before .before .before .before .before .before .before .pre .0 in omega (arith, asked .inside, asked .short)
+add-t15 c =
+    let asked = c .before .before .before .before .before .before .before .before .before .before .pre .0 in
+    omega (arith, asked .inside, asked .short)
 
 returns-4 : tie.Need-returns-4
-returns-4 c = let asked = c .before .before .before .before .before .before .before .before .before .before .pre .0 in advanced-one _ _ _ _ _ _ asked _ (c .fed .ensures)
+returns-4 c =
+    let asked = c .before .before .before .before .before .before .before .before .before .before .pre .0 in
+    advanced-one _ _ _ _ _ _ asked _ (c .fed .ensures)
 
 pub fed-word-spec : {M : Type 1} → statement M
 fed-word-spec =

@@ -18,10 +18,14 @@ add-q : tie.Need-add-q
 add-q c = let asked = c .before .before .before .before .pre in omega (arith, asked .0, asked .1)
 
 first-of-requires : tie.Need-first-of-requires
-first-of-requires c κs = c .before .before .before .before .before .pre .2 (c .before .before .if1 .left)
+first-of-requires c κs =
+    let asked = c .before .before .before .before .before .pre in
+    asked .2 (c .before .before .if1 .left)
 
 last-of-requires : tie.Need-last-of-requires
-last-of-requires c κs = c .before .before .before .before .before .before .pre .2 (c .before .before .before .if1 .left)
+last-of-requires c κs =
+    let asked = c .before .before .before .before .before .before .pre in
+    asked .2 (c .before .before .before .if1 .left)
 
 returns-3 : tie.Need-returns-3
 returns-3 c = λ e. c .before .before .before .before .if1 .left

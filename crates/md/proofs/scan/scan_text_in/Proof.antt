@@ -55,45 +55,54 @@ returns c =
 
 fed-run-requires : tie.Need-fed-run-requires Inv-loop μ-loop
 fed-run-requires c κs =
+    let at-loop = c .before .before .before .before .before .before .loop in
+    let at-loop-test = c .before .before .before .before .before .loop-test in
     let asked = c .before .before .before .before .before .before .before .before .before .before .before .pre in
     let looked = c .before .before .before .class-at in
-    let before =
-    going-before _ _ _ _ (c .before .before .before .before .before .before .loop .inv) (asked .tables) (asked .short) _ (c .before .before .before .before .before .loop-test .taken)
-    (sym (looked .ensures .found) ∙ c .before .found .given .1) in
-    (before, before-looked _ _ _ _ _ _ before _ (looked .ensures .held))
+    let found = sym (looked .ensures .found) ∙ c .before .found .given .1 in
+    let here = going-before _ _ _ _ (at-loop .inv) (asked .tables) (asked .short) _ (at-loop-test .taken) found in
+    (here, before-looked _ _ _ _ _ _ here _ (looked .ensures .held))
 
 cast-recounted : tie.Need-cast-recounted Inv-loop μ-loop
-cast-recounted c = omega (arith, c .before .fed-run .ensures .ends, c .before .before .before .before .before .before .before .before .before .before .before .before .before .pre .short)
+cast-recounted c =
+    let asked = c .before .before .before .before .before .before .before .before .before .before .before .before .before .pre in
+    omega (arith, c .before .fed-run .ensures .ends, asked .short)
 
 recounted-requires : tie.Need-recounted-requires Inv-loop μ-loop
-recounted-requires c κs = fed-counted _ _ _ _ (c .before .before .before .before .before .before .before .before .loop .inv) _ (c .before .fed-run .ensures)
+recounted-requires c κs =
+    let at-loop = c .before .before .before .before .before .before .before .before .loop in
+    fed-counted _ _ _ _ (at-loop .inv) _ (c .before .fed-run .ensures)
 
 sub-is-over : tie.Need-sub-is-over Inv-loop μ-loop
 sub-is-over c = omega (arith, c .before .before .fed-run .ensures .begins)
 
 is-over-requires : tie.Need-is-over-requires Inv-loop μ-loop
 is-over-requires c κs =
-    rw (c .recounted .ensures)
-    (fed-countable _ _ _ _ (c .before .before .before .before .before .before .before .before .before .loop .inv) _ (c .before .before .fed-run .ensures) (omega (arith, c .before .before .before .before .before .before .before .before .before .before .before .before .before .before .pre .short)))
+    let at-loop = c .before .before .before .before .before .before .before .before .before .loop in
+    let asked = c .before .before .before .before .before .before .before .before .before .before .before .before .before .before .pre in
+    rw (c .recounted .ensures) (fed-countable _ _ _ _ (at-loop .inv) _ (c .before .before .fed-run .ensures) (omega (arith, asked .short)))
 
 sub-stopped-after : tie.Need-sub-stopped-after Inv-loop μ-loop
 sub-stopped-after c = omega (arith, c .before .before .before .before .fed-run .ensures .begins)
 
 stopped-after-requires : tie.Need-stopped-after-requires Inv-loop μ-loop
 stopped-after-requires c κs =
+    let at-loop = c .before .before .before .before .before .before .before .before .before .before .before .before .loop in
     let asked = c .before .before .before .before .before .before .before .before .before .before .before .before .before .before .before .before .before .pre in
+    let same = c .before .before .before .recounted .ensures in
     let went = c .before .before .before .before .before .fed-run in (
       asked .tables .good,
       asked .short,
       omega (arith, went .ensures .begins, went .ensures .ends),
-      rw (c .before .before .before .recounted .ensures) (fed-countable _ _ _ _ (c .before .before .before .before .before .before .before .before .before .before .before .before .loop .inv) _ (went .ensures) (omega (arith, asked .short))),
+      rw same (fed-countable _ _ _ _ (at-loop .inv) _ (went .ensures) (omega (arith, asked .short))),
     )
 
 returns-2 : tie.Need-returns-2 Inv-loop μ-loop
 returns-2 c =
+    let at-loop = c .before .before .before .before .before .before .before .before .before .before .before .before .before .loop in
     let same = c .before .before .before .before .recounted .ensures in
     let went = c .before .before .before .before .before .before .fed-run in
-    going-stopped _ _ _ _ (c .before .before .before .before .before .before .before .before .before .before .before .before .before .loop .inv) _ (went .ensures) _ (omega (arith, went .ensures .begins)) _ same
+    going-stopped _ _ _ _ (at-loop .inv) _ (went .ensures) _ (omega (arith, went .ensures .begins)) _ same
     _
     (c .before .before .before .is-over .ensures)
     (c .before .before .if1 .taken)
@@ -101,13 +110,15 @@ returns-2 c =
     (c .stopped-after .ensures)
 
 loop-less : tie.Need-loop-less Inv-loop μ-loop
-loop-less c = omega (arith, c .before .before .before .before .fed-run .ensures .begins, c .before .before .before .before .before .before .before .before .before .before .loop-test .taken)
+loop-less c =
+    let at-loop-test = c .before .before .before .before .before .before .before .before .before .before .loop-test in
+    omega (arith, c .before .before .before .before .fed-run .ensures .begins, at-loop-test .taken)
 
 loop-again : tie.Need-loop-again Inv-loop μ-loop
 loop-again c =
-    let same = c .before .before .recounted .ensures in
+    let at-loop = c .before .before .before .before .before .before .before .before .before .before .before .loop in
     let went = c .before .before .before .before .fed-run in
-    going-on _ _ _ _ (c .before .before .before .before .before .before .before .before .before .before .before .loop .inv) _ (went .ensures) _ (omega (arith, went .ensures .begins)) _ same
+    going-on _ _ _ _ (at-loop .inv) _ (went .ensures) _ (omega (arith, went .ensures .begins)) _ (c .before .before .recounted .ensures)
     _
     (c .before .is-over .ensures)
     (c .if1 .left)
