@@ -30,20 +30,28 @@ pub fn last_of(t: &[u8], i: usize) -> u32
     u32_at(t, i * CLASS_RECORD + LAST_AT)
 }
 
-// The first record of a good table that ends at p or past it, or the number of records. Those before `low` end before p, those from `high` on do not.
+// The first record of a good table that ends at p or past it, or the number of records. Those before `low` end before p, those from `low + size` on do
+// not. How often it halves does not hang on p, so that the processor foresees it.
 fn first_ending(t: &[u8], p: u32) -> usize
     requires { ⌜ goodTable (now t) ≡ true ⌝ }
     ensures { λ r. ⌜ r ≡ ending (now (t .entry)) p ⌝ }
 {
     let mut low = 0;
-    let mut high = t.len() / CLASS_RECORD;
-    while low < high {
-        let middle = low + (high - low) / 2;
-        if last_of(t, middle) < p {
-            low = middle + 1;
+    let mut size = t.len() / CLASS_RECORD;
+    while 1 < size {
+        let half = size / 2;
+        if last_of(t, low + half - 1) < p {
+            low += half;
+            size -= half;
         } else {
-            high = middle;
+            size -= half;
         }
+    }
+    if size == 0 {
+        return low;
+    }
+    if last_of(t, low) < p {
+        return low + 1;
     }
     low
 }

@@ -47,7 +47,7 @@ fn or_self(n: u32, point: u32) -> u32
     if n == 0 { point } else { n }
 }
 
-fn builtin_class(point: u32, table: &Table) -> Class
+pub fn builtin_class(point: u32, table: &Table) -> Class
     requires { ⌜ (point < BUILTIN-END) × (now table ≡ packedWords) ⌝ }
     ensures { λ r. ⌜ r ≡ builtinClass point ⌝ }
 {
@@ -62,7 +62,7 @@ fn builtin_class(point: u32, table: &Table) -> Class
 }
 
 // The class that the lent record `at` gives a code point that it holds; nothing where `at` is the number of records, since none does.
-fn class_in(point: u32, at: usize, classes: &[u8]) -> Found
+pub fn class_in(point: u32, at: usize, classes: &[u8]) -> Found
     requires { ⌜ at ≡ holder (now classes) point ⌝ }
     ensures { λ r. ⌜ r ≡ lentClass (now (classes .entry)) point ⌝ }
 {

@@ -4,20 +4,23 @@ ghost use mathlib.Core.Path.{_≡_};
 ghost use mathlib.Core.Bool.{true};
 ghost use Prim.Native.Nat.{_≤_, _<_};
 ghost use lib.ListN.{length};
-ghost use Rattle.base.specs.Limits.{LONGEST-TEXT, LAST-RANGE, PAIR-BYTES};
+ghost use Rattle.base.specs.Limits.{BUILTIN-END, LONGEST-TEXT, LAST-RANGE, PAIR-BYTES};
+ghost use Rattle.class_records.specs.Records.{records};
 ghost use Rattle.classes.specs.Lookup.{orSelf};
 ghost use Rattle.md_eight.specs.Detectors.{lastRange};
 ghost use Rattle.md_eight.specs.Inner.Detectors.{Room};
 ghost use Rattle.md_eight.specs.Inner.Runs as kinds;
-ghost use Rattle.md.specs.Inner.Runs.{Low, High, AlikeOf, Run, LowerRun, Before, Lent, Advanced};
+ghost use Rattle.md.specs.Text.{total};
+ghost use Rattle.md.specs.Inner.Runs.{Low, High, AlikeOf, Run, LowerRun, Before, Lent, HeldAt, Spaced, Advanced};
 use crate::rest::past_within;
 use crate::scan::fed;
+use crate::text::at_checkpoint;
 use crate::text::piece_end;
 use base::limits::BUILTIN_END;
 use class_records::record_at;
+use class_records::search::first_of;
+use class_records::search::last_of;
 use classes::Class;
-use classes::HINTS;
-use classes::held_near;
 use classes::is_suspicious;
 use md_counts::cjk_invalid_stop::STOP_DOWN;
 use md_counts::cjk_invalid_stop::STOP_UP;
@@ -26,7 +29,6 @@ use md_eight::Detectors;
 use md_eight::runs::BASIC_LATIN;
 use md_eight::runs::SPACE;
 use md_eight::runs::is_cased;
-use md_eight::runs::is_punctuation;
 use md_eight::runs::is_uncased;
 
 // ASCII's lower-case letters.
@@ -76,11 +78,11 @@ fn before_stops(last: u32, p: u32) -> u32
 }
 
 // The characters that are as p is, which a record holds.
-fn kin_of(p: u32, hints: &mut [usize; HINTS], classes: &[u8]) -> Alike
-    requires { ⌜ Lent (now classes) p ⌝ }
+fn kin_of(p: u32, held: usize, classes: &[u8]) -> Alike
+    requires { ⌜ Lent (now classes) p held ⌝ }
     ensures { λ r. ⌜ AlikeOf (now (classes .entry)) p r ⌝ }
 {
-    let r = record_at(classes, held_near(p, hints, classes));
+    let r = record_at(classes, held);
     Alike {
         low: past_stops(r.first, p),
         high: before_stops(r.last, p),
@@ -118,14 +120,14 @@ fn fed_cased(
     c: Class,
     text: &[u32],
     i: usize,
-    hints: &mut [usize; HINTS],
+    held: usize,
     classes: &[u8],
     pairs: &[u8],
 ) -> Fed
-    requires { ⌜ Before (now classes) (now pairs) (now text) s c i × Lent (now classes) (c .point) × (kinds.isCased (c .flags) ≡ true) ⌝ }
+    requires { ⌜ Before (now classes) (now pairs) (now text) s c i × Lent (now classes) (c .point) held × (kinds.isCased (c .flags) ≡ true) ⌝ }
     ensures { λ r. ⌜ Advanced (now (classes .entry)) (now (pairs .entry)) (now (text .entry)) i r ⌝ }
 {
-    let near = kin_of(c.point, hints, classes);
+    let near = kin_of(c.point, held, classes);
     let next = run_end(text, i, near.low, near.high);
     let last = text[next - 1];
     let suspicious = is_suspicious(pairs, s.last_range(), c.range);
@@ -149,14 +151,14 @@ fn fed_uncased(
     c: Class,
     text: &[u32],
     i: usize,
-    hints: &mut [usize; HINTS],
+    held: usize,
     classes: &[u8],
     pairs: &[u8],
 ) -> Fed
-    requires { ⌜ Before (now classes) (now pairs) (now text) s c i × Lent (now classes) (c .point) × (kinds.isUncased (c .flags) ≡ true) ⌝ }
+    requires { ⌜ Before (now classes) (now pairs) (now text) s c i × Lent (now classes) (c .point) held × (kinds.isUncased (c .flags) ≡ true) ⌝ }
     ensures { λ r. ⌜ Advanced (now (classes .entry)) (now (pairs .entry)) (now (text .entry)) i r ⌝ }
 {
-    let near = kin_of(c.point, hints, classes);
+    let near = kin_of(c.point, held, classes);
     let next = run_end(text, i, near.low, near.high);
     let suspicious = is_suspicious(pairs, s.last_range(), c.range);
     let again = is_suspicious(pairs, c.range, c.range);
@@ -166,43 +168,86 @@ fn fed_uncased(
     }
 }
 
-// The character at i, which is of class c, and those behind it that are fed with it.
-pub fn fed_run(
+// Whether the lent record that holds p, the character at i, holds the one behind it too. Where it does not there is no run, and p is fed by itself, whatever its kind.
+fn runs_on(p: u32, text: &[u32], i: usize, held: usize, classes: &[u8]) -> bool
+    requires { ⌜ (i < total (now text)) × (length (now text) ≤ LONGEST-TEXT) × (BUILTIN-END ≤ p → held < records (now classes)) ⌝ }
+    ensures { λ r. ⌜ (r ≡ true → BUILTIN-END ≤ p) ⌝ }
+{
+    if p < BUILTIN_END {
+        return false;
+    }
+    if text.len() <= i + 1 {
+        return false;
+    }
+    let q = text[i + 1];
+    (first_of(classes, held) <= q) & (q <= last_of(classes, held))
+}
+
+// The character at i, which is of class c and which the lent record `held` holds if any does, and those behind it that are fed with it.
+fn fed_word(
     s: Detectors,
     c: Class,
     text: &[u32],
     i: usize,
-    hints: &mut [usize; HINTS],
+    held: usize,
     classes: &[u8],
     pairs: &[u8],
 ) -> Fed
-    requires { ⌜ Before (now classes) (now pairs) (now text) s c i ⌝ }
+    requires { ⌜ Before (now classes) (now pairs) (now text) s c i × HeldAt (now classes) (c .point) held ⌝ }
     ensures { λ r. ⌜ Advanced (now (classes .entry)) (now (pairs .entry)) (now (text .entry)) i r ⌝ }
 {
     if (LOWER_FIRST <= c.point) & (c.point <= LOWER_LAST) {
         return fed_lower(s, text, i, pairs);
     }
-    if c.point == SPACE {
-        return Fed {
-            state: s.space(),
-            next: i + 1,
-        };
-    }
-    let plain = !wrong_stop(c.point);
-    if (BUILTIN_END <= c.point) & plain & is_uncased(c.flags) {
-        return fed_uncased(s, c, text, i, hints, classes, pairs);
-    }
-    if (BUILTIN_END <= c.point) & plain & is_cased(c.flags) {
-        return fed_cased(s, c, text, i, hints, classes, pairs);
-    }
-    if plain & is_punctuation(c.flags) {
-        return Fed {
-            state: s.punctuation(c),
-            next: i + 1,
-        };
+    if runs_on(c.point, text, i, held, classes) & !wrong_stop(c.point) {
+        if is_uncased(c.flags) {
+            return fed_uncased(s, c, text, i, held, classes, pairs);
+        }
+        if is_cased(c.flags) {
+            return fed_cased(s, c, text, i, held, classes, pairs);
+        }
     }
     Fed {
         state: fed(s, c, pairs),
         next: i + 1,
     }
+}
+
+// Whether a space stands at i, and no checkpoint before it. The checkpoint is asked first, since the loop asks the same after the step.
+fn before_space(text: &[u32], i: usize) -> bool
+    requires { ⌜ 0 < i ⌝ }
+    ensures { λ r. ⌜ (r ≡ true → Spaced (now (text .entry)) i) ⌝ }
+{
+    if at_checkpoint(text.len(), i - 1) {
+        return false;
+    }
+    if i < text.len() {
+        return text[i] == SPACE;
+    }
+    false
+}
+
+// The same, with the space behind them: so it goes with the word that it closes.
+pub fn fed_run(
+    s: Detectors,
+    c: Class,
+    text: &[u32],
+    i: usize,
+    held: usize,
+    classes: &[u8],
+    pairs: &[u8],
+) -> Fed
+    requires { ⌜ Before (now classes) (now pairs) (now text) s c i × HeldAt (now classes) (c .point) held ⌝ }
+    ensures { λ r. ⌜ Advanced (now (classes .entry)) (now (pairs .entry)) (now (text .entry)) i r ⌝ }
+{
+    let f = fed_word(s, c, text, i, held, classes, pairs);
+    let t = f.state;
+    let next = f.next;
+    if before_space(text, next) {
+        return Fed {
+            state: t.space(),
+            next: next + 1,
+        };
+    }
+    f
 }

@@ -16,6 +16,7 @@ ghost use Rattle.md.specs.Inner.Scan.{scan};
 ghost use Rattle.md.specs.Inner.Scan as scanned;
 ghost use Rattle.md.specs.Inner.Going as going;
 ghost use Rattle.md.specs.Inner.Ready.{Ready};
+ghost use Rattle.md.specs.Inner.Runs.{LookedAt};
 use crate::Limit;
 use crate::Score;
 use crate::Scored;
@@ -24,16 +25,25 @@ use crate::text::at_checkpoint;
 use crate::text::char_at;
 use crate::unscored;
 use crate::whole::unclassed_rest;
+use base::limits::BUILTIN_END;
 use base::refusals::UNCLASSED;
 use class_builtin::Table;
 use classes::Class;
 use classes::Found;
 use classes::HINTS;
-use classes::look_up_near;
+use classes::builtin_class;
+use classes::class_in;
+use classes::held_near;
 use md_eight::Detectors;
 use ratio::EightCounts;
 use ratio::rounding;
 use ratio::telling;
+
+// What the lookup finds for a character, and the lent record that it found it in; below the built-in table's end there is none, and `held` says nothing.
+pub struct Looked {
+    pub found: Found,
+    pub held: usize,
+}
 
 // What the lookup finds for the character at i, the built-in table and the hints being lent.
 fn class_at(
@@ -42,11 +52,22 @@ fn class_at(
     hints: &mut [usize; HINTS],
     table: &Table,
     classes: &[u8],
-) -> Found
+) -> Looked
     requires { ⌜ (goodTable (now classes) ≡ true) × (now table ≡ packedWords) ⌝ }
-    ensures { λ r. ⌜ r ≡ scans.classAt (now (classes .entry)) (now (text .entry)) i ⌝ }
+    ensures { λ r. ⌜ LookedAt (now (classes .entry)) (now (text .entry)) i r ⌝ }
 {
-    look_up_near(char_at(text, i), hints, table, classes)
+    let p = char_at(text, i);
+    if p < BUILTIN_END {
+        return Looked {
+            found: Found::At(builtin_class(p, table)),
+            held: 0,
+        };
+    }
+    let held = held_near(p, hints, classes);
+    Looked {
+        found: class_in(p, held, classes),
+        held,
+    }
 }
 
 // One character, fed to the eight, with the pair table's bit for its range after the last one.
@@ -145,12 +166,15 @@ pub fn scan_text_in(
     let mut s = Detectors::start();
     let mut i = 0;
     while i < n {
-        let Found::At(c) = class_at(text, i, hints, table, classes) else {
+        let looked = class_at(text, i, hints, table, classes);
+        let found = looked.found;
+        let Found::At(c) = found else {
             return unscored(UNCLASSED, i as u32);
         };
-        let f = fed_run(s, c, text, i, hints, classes, pairs);
-        s = f.state;
+        let f = fed_run(s, c, text, i, looked.held, classes, pairs);
         i = f.next;
+        let t = f.state;
+        s = t.recounted(i as u32);
         if is_over(s, text.len(), i - 1, limit) {
             return stopped_after(s, text, i - 1, hints, classes);
         }

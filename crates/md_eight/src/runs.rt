@@ -1,11 +1,10 @@
 // Many characters of one kind, fed to the eight at once. Each function answers what `Detectors::feed` does, character by character.
 ghost use mathlib.Core.Path.{_≡_};
-ghost use mathlib.Core.Bool.{true, false};
+ghost use mathlib.Core.Bool.{false};
 ghost use Prim.Native.Nat.{_<_, _≤_};
 ghost use Rattle.base.specs.Inner.Limits.{LARGEST};
-ghost use Rattle.md_counts.specs.CjkInvalidStop.{wrongStop};
 ghost use Rattle.md_eight.specs.Detectors as detectors;
-ghost use Rattle.md_eight.specs.Inner.Detectors.{Room};
+ghost use Rattle.md_eight.specs.Inner.Detectors.{Room, FedCount};
 ghost use Rattle.md_eight.specs.Inner.Runs as runs;
 use crate::Detectors;
 use base::flags::ACCENTUATED;
@@ -15,7 +14,6 @@ use base::flags::ASCII_ALPHABETIC;
 use base::flags::ASCII_GRAPHIC;
 use base::flags::CASE_VARIABLE;
 use base::flags::CHAR_ALPHABETIC;
-use base::flags::CJK;
 use base::flags::COMMON_SAFE;
 use base::flags::LATIN;
 use base::flags::LOWERCASE;
@@ -27,6 +25,10 @@ use base::flags::UPPERCASE;
 use base::flags::WHITESPACE;
 use base::is_set;
 use classes::Class;
+use md_counts::too_many_symbol_or_punctuation::TooManySymbolOrPunctuation;
+use md_counts::unprintable::Unprintable;
+use md_neighbours::suspicious_range::SuspiciousRange;
+use md_words::archaic_upper_lower::ArchaicUpperLower;
 
 // Whether a character of a run may have these flags: it is printable, closes no word, is no symbol and lets ranges remember.
 // Tests of single bits, which the proofs compute; the compiler makes one mask of them.
@@ -57,17 +59,6 @@ pub fn is_cased(f: u32) -> bool
         & is_set(f, CASE_VARIABLE)
         & !(is_set(f, LATIN) & is_set(f, ACCENTUATED))
         & !(is_set(f, UPPERCASE) & is_set(f, LOWERCASE))
-}
-
-// Printable punctuation that is no letter and no CJK character: accents, doubled accents and stops pass it over.
-pub fn is_punctuation(f: u32) -> bool
-    ensures { λ r. ⌜ r ≡ runs.isPunctuation f ⌝ }
-{
-    is_set(f, PUNCTUATION)
-        & !is_set(f, UNPRINTABLE)
-        & !is_set(f, ALPHABETIC)
-        & !is_set(f, ASCII_ALPHABETIC)
-        & !is_set(f, CJK)
 }
 
 // The range of ASCII's printable characters.
@@ -158,26 +149,6 @@ impl Detectors {
         }
     }
 
-    // One mark of punctuation.
-    pub fn punctuation(self, c: Class) -> Detectors
-        requires { ⌜ Room self × (runs.isPunctuation (c .flags) ≡ true) × (wrongStop (c .point) ≡ false) ⌝ }
-        ensures { λ r. ⌜ r ≡ detectors.feed self c false ⌝ }
-    {
-        let accents = self.accents;
-        let doubled = self.doubled;
-        let stops = self.stops;
-        Detectors {
-            symbols: self.symbols.feed(c),
-            accents,
-            unprintable: self.unprintable.feed_run(1),
-            ranges: self.ranges.forget(),
-            doubled,
-            words: self.words.feed(c),
-            stops,
-            archaic: self.archaic.feed(c),
-        }
-    }
-
     // One space: `feed` at its class.
     pub fn space(self) -> Detectors
         requires { ⌜ Room self ⌝ }
@@ -199,6 +170,50 @@ impl Detectors {
             words: self.words.feed(c),
             stops: self.stops.feed(c),
             archaic: self.archaic.feed(c),
+        }
+    }
+
+    // The same state after n characters: what counts all of them, and what counts the printable ones, is made of n. A loop that has it made so need not
+    // carry these four from character to character.
+    pub fn recounted(self, n: u32) -> Detectors
+        requires { ⌜ FedCount self n ⌝ }
+        ensures { λ r. ⌜ r ≡ self ⌝ }
+    {
+        let printable = n - self.unprintable.unprintable;
+        let accents = self.accents;
+        let doubled = self.doubled;
+        let words = self.words;
+        let stops = self.stops;
+        Detectors {
+            symbols: TooManySymbolOrPunctuation {
+                characters: printable,
+                punctuation: self.symbols.punctuation,
+                symbols: self.symbols.symbols,
+                last: self.symbols.last,
+            },
+            accents,
+            unprintable: Unprintable {
+                characters: n,
+                unprintable: self.unprintable.unprintable,
+            },
+            ranges: SuspiciousRange {
+                characters: printable,
+                suspicious: self.ranges.suspicious,
+                seen: self.ranges.seen,
+                last: self.ranges.last,
+            },
+            doubled,
+            words,
+            stops,
+            archaic: ArchaicUpperLower {
+                characters: n,
+                since: self.archaic.since,
+                run: self.archaic.run,
+                total: self.archaic.total,
+                last: self.archaic.last,
+                ascii: self.archaic.ascii,
+                buf: self.archaic.buf,
+            },
         }
     }
 }

@@ -63,15 +63,16 @@ impl SuspiciousRange {
         ensures { λ r. ⌜ r ≡ feed self c suspicious ⌝ }
     {
         if is_set(c.flags, UNPRINTABLE) {
-            return self;
+            // field by field: copied whole, three bytes that mean nothing go with it, and the compiler carries them through the scan
+            return SuspiciousRange {
+                characters: self.characters,
+                suspicious: self.suspicious,
+                seen: self.seen,
+                last: self.last,
+            };
         }
         if forgets(c.flags) {
-            return SuspiciousRange {
-                characters: self.characters + 1,
-                suspicious: self.suspicious,
-                seen: false,
-                last: 0,
-            };
+            return self.forget();
         }
         let range = c.range;
         SuspiciousRange {
@@ -97,7 +98,7 @@ impl SuspiciousRange {
     }
 
     // A printable character that forgets the last one.
-    pub fn forget(self) -> SuspiciousRange
+    fn forget(self) -> SuspiciousRange
         requires { ⌜ Room self ⌝ }
         ensures { λ r. ⌜ r ≡ forgotten self ⌝ }
     {

@@ -1,7 +1,7 @@
 -- The search by halving. In a good table records are "ascending, no overlap" (01), so `ending`, the first record that ends at p or past it, is
 -- the only one that may hold p: `ending-holds`, `-gap` and `-past` say what the search answers. `Halving` is the search under way.
 -- Assumes nothing.
-use Prim.Native.Nat.{ℕ, _+_, _≤_, _<_}
+use Prim.Native.Nat.{ℕ, _+_, _-_, _≤_, _<_}
 use mathlib.Core.Path.{_≡_, sym}
 use mathlib.Core.List.{List}
 use mathlib.Core.Bool.{true, false}
@@ -108,3 +108,24 @@ module _ (t : List ℕ) (g : goodTable t ≡ true) (p : ℕ) where
         (λ l. sym (first-is (endsFrom t p) (records t) low l (le-leb _ _ (s .above low h l)) (λ j k. lt-leb _ _ (s .below j k))))
         (λ l. let e : low ≡ records t = omega (arith, s .order, s .within) in
         rw e (sym (first-none (endsFrom t p) (records t) (λ j k. lt-leb _ _ (s .below j (omega arith))))))
+
+  -- of `size` records from low on the first half ends with the one at m; where it is not passed, the search goes on among as many as are left where it is
+  module _ {low size : ℕ} (s : Halving t p low (low + size)) (half m : ℕ) (e : m + 1 ≡ low + half) (some : 0 < half) (twice : half + half ≤ size) where
+    pub sized-right : recordAt t m .last < p → Halving t p (low + half) (low + half + (size - half))
+    sized-right h =
+        let z : low + half + (size - half) ≡ low + size = omega (arith, twice) in
+        rw (z, ← e) (halving-right s (omega (arith, e, some)) (omega (arith, e, some, twice)) h)
+
+    pub sized-left : p ≤ recordAt t m .last → Halving t p low (low + (size - half))
+    sized-left h =
+        let l = halving-left s (omega (arith, e, some)) (omega (arith, e, some, twice)) h in
+        record {
+          order = omega arith;
+          within = omega (arith, s .within, twice);
+          below = s .below;
+          above = λ i x k. l .above i (omega (arith, x, e, twice)) k;
+        }
+
+-- all records
+pub sized-start : (t : List ℕ) (p : ℕ) → Halving t p 0 (0 + records t)
+sized-start t p = let z : 0 + records t ≡ records t = omega arith in rw z (halving-start t p)

@@ -7,15 +7,16 @@ use mathlib.Core.List.{List}
 use mathlib.Core.Bool.{Bool, true, false, not, _&&_}
 use native.Mathlib.Numerals.{add-one}
 use native.Mathlib.Omega.{arith}
-use lib.Dec.{leb, ltb}
+use lib.Dec.{leb, ltb, eqb}
 use lib.ListN.{length, getD, List·getD-eq-default}
-use borrow.Author.Tests.{le-leb, lt-leb, leb-true, leb-false, lt-ltb, ne-eqb, not-true}
-use Rattle.base.specs.Limits.{BUILTIN-END, NEWLINE, LAST-RANGE}
+use borrow.Author.Tests.{le-leb, lt-leb, leb-true, leb-false, lt-ltb, ne-eqb, eqb-true, not-true}
+use Rattle.base.specs.Limits.{BUILTIN-END, NEWLINE, LAST-RANGE, LONGEST-TEXT}
 use Rattle.base.proofs.Laws.Tests.{split, and-l, and-r, within-lo, within-hi}
 use Rattle.class_records.specs.declared.Record.{Record}
 use Rattle.class_records.specs.Records.{records, recordAt, holder}
 use Rattle.classes.specs.declared.Class.{Class}
 use Rattle.classes.specs.declared.Found.the-variants.{At, Nothing}
+use Rattle.classes.specs.Inner.Tables.{Tables}
 use Rattle.classes.specs.Lookup.{orSelf, recordClass}
 use Rattle.classes.specs.Pairs.{suspicious}
 use Rattle.classes.proofs.Laws.Lookup.{class-builtin, class-lent, lent-none, class-lawful}
@@ -23,20 +24,23 @@ use Rattle.md_counts.specs.CjkInvalidStop.{wrongStop, STOP-UP, STOP-DOWN}
 use Rattle.md_eight.specs.declared.Detectors.{Detectors}
 use Rattle.md_eight.specs.Detectors.{feed, lastRange}
 use Rattle.md_eight.specs.Inner.Detectors.{Room}
-use Rattle.md_eight.specs.Inner.Runs.{isCased, isUncased, isPunctuation, casedRun, uncasedRun, lowerClass, LOWER-FIRST, LOWER-LAST, BASIC-LATIN, SPACE, spaceClass}
+use Rattle.md_eight.specs.Inner.Runs.{isCased, isUncased, casedRun, uncasedRun, lowerClass, LOWER-FIRST, LOWER-LAST, BASIC-LATIN, SPACE, spaceClass}
 use Rattle.md_eight.proofs.Loops.Detectors.{within-room}
 use Rattle.md_eight.proofs.Laws.Runs.{cased-one, cased-more, cased-last, uncased-one, uncased-more, uncased-last, Settled, start-settled, feed-settled, lower-cased}
-use Rattle.md_eight.proofs.Laws.Runs.{space-any, punctuation-any}
+use Rattle.md_eight.proofs.Laws.Runs.{space-any}
 use Rattle.md.specs.declared.runs.Alike.{Alike}
 use Rattle.md.specs.declared.runs.Fed.{Fed}
 use Rattle.md.specs.Text.{charAt, total, checkpoint, period, SHORT-LENGTH, MIDDLE-LENGTH, SHORT-PERIOD, MIDDLE-PERIOD, LONG-PERIOD}
 use Rattle.md.specs.Scan.{fed, classIn, classAt, unclassed, stateAt}
 use Rattle.md.specs.Inner.Rest.{Past}
-use Rattle.md.specs.Inner.Runs.{Nearer, Piece, Run, Low, High, Lent, AlikeOf, LowerRun, Before, Advanced}
+use Rattle.md.specs.Inner.Runs.{Nearer, Piece, Run, Low, High, HeldAt, Lent, AlikeOf, LowerRun, Spaced, Before, Advanced}
 use Rattle.md.proofs.Laws.Ascii.{lower-class, lower-stop, space-class}
 use Rattle.class_records.proofs.Laws.Records.{held-past}
 use Rattle.md.proofs.Laws.Rest.{held-class, holder-hold, holder-holds}
 use Rattle.md.proofs.Laws.Scan.{getD-any, is-classed, state-within, state-range, class-range}
+
+pub untrue : {A : Type 0} → false ≡ true → A
+untrue e = let z : _≡_ {A = ℕ} 0 1 = cc in absurd (omega arith)
 
 -- ---- pieces of a text
 short-quiet : (n i j : ℕ) → n ≤ SHORT-LENGTH → i ≤ j → j + 1 < i / SHORT-PERIOD * SHORT-PERIOD + SHORT-PERIOD → checkpoint n j ≡ false
@@ -128,11 +132,11 @@ module _ (last p : ℕ) where
       left true e = e
       left false e = refl
 
-pub alike-made : (classes : List ℕ) (p low high b at : ℕ) (r : Record) → Lent classes p → at ≡ holder classes p → r ≡ recordAt classes at
+pub alike-made : (classes : List ℕ) (p low high b at : ℕ) (r : Record) → Lent classes p at → r ≡ recordAt classes at
     → Low (r .first) p low → High (r .last) p high → b ≡ r .base
     → AlikeOf classes p (record { low = low; high = high; base = b })
-alike-made classes p low high b at r l e f lo hi m =
-    let is : r ≡ recordAt classes (holder classes p) = f ∙ rw e in
+alike-made classes p low high b at r l f lo hi m =
+    let is : r ≡ recordAt classes (holder classes p) = f ∙ rw (l .is) in
     record {
       base = m ∙ rw is;
       from = λ q h. rw (← is) (omega (arith, lo .least, h));
@@ -263,6 +267,9 @@ module _ (classes pairs text : List ℕ) (s : Detectors) (c : Class) (i : ℕ) (
   before-inside other =
       split i (length text) (λ h. h) (λ h. absurd (other (before-point ∙ List·getD-eq-default text NEWLINE h)))
 
+  pub before-looked : (at : ℕ) → HeldAt classes (charAt text i) at → HeldAt classes (c .point) at
+  before-looked at k = rw before-point k
+
   -- a code point past the built-in table that has a class is held by a record
   pub before-held : BUILTIN-END ≤ c .point → holder classes (c .point) < records classes
   unfolding classAt
@@ -390,27 +397,19 @@ module _ (classes pairs text : List ℕ) (s : Detectors) (c : Class) (i : ℕ) (
       advanced-lower (leb-true LOWER-FIRST (c .point) (and-l (leb LOWER-FIRST (c .point)) (leb (c .point) LOWER-LAST) e))
       (leb-true (c .point) LOWER-LAST (and-r (leb LOWER-FIRST (c .point)) (leb (c .point) LOWER-LAST) e))
 
-  pub lent-step : (w k q : Bool) → w ≡ wrongStop (c .point) → k ≡ q → leb BUILTIN-END (c .point) && not w && k ≡ true → Lent classes (c .point) × (q ≡ true)
-  lent-step w k q we ke t =
-      let two = and-l (leb BUILTIN-END (c .point) && not w) k t in
-      let past : BUILTIN-END ≤ c .point = leb-true BUILTIN-END (c .point) (and-l (leb BUILTIN-END (c .point)) (not w) two) in (
-        record {
-          good = b .tables .good;
-          held = before-held past;
-          right = sym we ∙ not-true w (and-r (leb BUILTIN-END (c .point)) (not w) two);
-        },
-        sym ke ∙ and-r (leb BUILTIN-END (c .point) && not w) k t,
-      )
-
-  pub plain-step : (w k q : Bool) → w ≡ wrongStop (c .point) → k ≡ q → not w && k ≡ true → (q ≡ true) × (wrongStop (c .point) ≡ false)
-  plain-step w k q we ke t = (sym ke ∙ and-r (not w) k t, sym we ∙ not-true w (and-l (not w) k t))
+  -- where a run may be, that of a lent record
+  pub lent-step : (at : ℕ) → HeldAt classes (c .point) at → (g w : Bool) → (g ≡ true → BUILTIN-END ≤ c .point) → w ≡ wrongStop (c .point) → g && not w ≡ true
+      → Lent classes (c .point) at
+  lent-step at h g w ge we t =
+      let past = ge (and-l g (not w) t) in
+      record { good = b .tables .good; is = h past; held = before-held past; right = sym we ∙ not-true w (and-r g (not w) t) }
 
   -- characters of one record
-  pub lent-inside : Lent classes (c .point) → i < length text
-  lent-inside l =
+  pub lent-inside : (at : ℕ) → Lent classes (c .point) at → i < length text
+  lent-inside at l =
       before-inside (λ e. omega (arith, e, held-past classes (l .good) (c .point) (holder classes (c .point)) (l .held) (holder-hold classes (c .point) (l .held))))
 
-  module _ (l : Lent classes (c .point)) (near : Alike) (n : AlikeOf classes (c .point) near) (next : ℕ) (w : Run text (near .low) (near .high) i next) where
+  module _ (rec : ℕ) (l : Lent classes (c .point) rec) (near : Alike) (n : AlikeOf classes (c .point) near) (next : ℕ) (w : Run text (near .low) (near .high) i next) where
     abbrev held : Record
     held = recordAt classes (holder classes (c .point))
 
@@ -469,7 +468,7 @@ module _ (classes pairs text : List ℕ) (s : Detectors) (c : Class) (i : ℕ) (
         → t ≡ uncasedRun s c (next - i) (getD text (next - 1) 0) x y → Advanced classes pairs text i (record { state = t; next = next })
     uncased-step e v x y ve xe ye t te = lent-uncased e t (te ∙ rw (read-last, xe, ye, ve))
 
-  -- the space, and punctuation
+  -- the space
   pub advanced-space : (t : Detectors) → c .point ≡ SPACE → t ≡ feed s spaceClass false → Advanced classes pairs text i (record { state = t; next = i + 1 })
   unfolding fed classAt
   advanced-space t p e =
@@ -478,6 +477,42 @@ module _ (classes pairs text : List ℕ) (s : Detectors) (c : Class) (i : ℕ) (
       let d : c ≡ spaceClass = cc in
       advanced-one t (e ∙ space-any s false (suspicious pairs (lastRange s) (c .range)) ∙ rw d)
 
-  pub advanced-punctuation : (t : Detectors) → isPunctuation (c .flags) ≡ true → t ≡ feed s c false → Advanced classes pairs text i (record { state = t; next = i + 1 })
-  unfolding fed
-  advanced-punctuation t m e = advanced-one t (e ∙ punctuation-any s c false (suspicious pairs (lastRange s) (c .range)) m)
+-- a step after a step whose last character is no checkpoint
+advanced-both : (classes pairs text : List ℕ) (i : ℕ) (r t : Fed) → Advanced classes pairs text i r → checkpoint (length text) (r .next - 1) ≡ false
+    → Advanced classes pairs text (r .next) t → Advanced classes pairs text i t
+advanced-both classes pairs text i r t a q d =
+    record {
+      begins = omega (arith, a .begins, d .begins);
+      ends = d .ends;
+      state = d .state;
+      classed = λ j x y. split j (r .next) (λ m. a .classed j x m) (λ m. d .classed j m y);
+      quiet = λ j x y. split (j + 1) (r .next)
+          (λ m. a .quiet j x m)
+          (λ m. split j (r .next) (λ k. let e : j ≡ r .next - 1 = omega (arith, m, k) in rw e q) (λ k. d .quiet j k y));
+    }
+
+-- the space behind a step
+module _ (classes pairs text : List ℕ) (i : ℕ) (r : Fed) (g : Tables classes pairs) (h : length text ≤ LONGEST-TEXT) (a : Advanced classes pairs text i r)
+    (p : Spaced text (r .next)) where
+  spaced-before : Before classes pairs text (r .state) spaceClass (r .next)
+  unfolding classAt
+  spaced-before =
+      record {
+        tables = g;
+        short = h;
+        inside = omega (arith, p .inside);
+        state = a .state;
+        class = rw (p .space) (class-builtin classes SPACE (omega arith) ∙ ap At space-class);
+      }
+
+  pub spaced-room : Room (r .state)
+  spaced-room = before-room classes pairs text (r .state) spaceClass (r .next) spaced-before
+
+  pub advanced-spaced : (t : Detectors) → t ≡ feed (r .state) spaceClass false → Advanced classes pairs text i (record { state = t; next = r .next + 1 })
+  advanced-spaced t e =
+      advanced-both classes pairs text i r _ a (p .quiet) (advanced-space classes pairs text (r .state) spaceClass (r .next) spaced-before t refl e)
+
+-- what the tests for it say
+pub spaced-is : (text : List ℕ) (i : ℕ) (q : Bool) → q ≡ checkpoint (length text) (i - 1) → q ≡ false → i < length text → eqb (getD text i 0) SPACE ≡ true → Spaced text i
+spaced-is text i q e f h t =
+    record { inside = h; space = sym (getD-any text i 0 NEWLINE h) ∙ eqb-true (getD text i 0) SPACE t; quiet = sym e ∙ f }

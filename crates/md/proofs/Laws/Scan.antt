@@ -23,6 +23,8 @@ use Rattle.class_records.specs.Records.{goodTable}
 use Rattle.ratio.specs.declared.EightCounts.{EightCounts}
 use Rattle.md_eight.specs.declared.Detectors.{Detectors}
 use Rattle.md_eight.specs.Detectors.{start, counts, lastRange}
+use Rattle.md_eight.specs.Inner.Detectors.{FedCount}
+use Rattle.md_eight.proofs.Laws.Recounted.{start-fed-count, feed-fed-count}
 use Rattle.md_eight.proofs.Loops.Detectors.{Within, start-within, feed-within, start-last, feed-last}
 use Rattle.md.specs.declared.Limit.{Limit}
 use Rattle.md.specs.declared.Limit.the-variants.{Threshold, Never}
@@ -76,6 +78,12 @@ module _ (classes pairs text : List ℕ) where
   unfolding stateAt fed
   state-within zero = start-within
   state-within (suc i) = rw (← add-one i) (feed-within i (stateAt classes pairs text i) (state-within i) _ _)
+
+  -- and four of them are told by i
+  pub state-fed-count : (i : ℕ) → FedCount (stateAt classes pairs text i) i
+  unfolding stateAt fed
+  state-fed-count zero = start-fed-count
+  state-fed-count (suc i) = rw (← add-one i) (feed-fed-count (stateAt classes pairs text i) i (state-fed-count i) _ _)
 
   in-range : (p : ℕ) (f : Found) → ((c : Class) → f ≡ At c → c .range ≤ LAST-RANGE) → classIn p f .range ≤ LAST-RANGE
   in-range p (At c) r = r c refl

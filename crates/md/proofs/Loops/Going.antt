@@ -20,14 +20,14 @@ use Rattle.classes.specs.Inner.Tables.{Tables}
 use Rattle.classes.specs.declared.Found.the-variants.{At, Nothing}
 use Rattle.md_eight.specs.declared.Detectors.{Detectors}
 use Rattle.md_eight.specs.Detectors.{start}
-use Rattle.md_eight.specs.Inner.Detectors.{Countable}
+use Rattle.md_eight.specs.Inner.Detectors.{Countable, FedCount}
 use Rattle.md_eight.proofs.Loops.Detectors.{within-countable}
 use Rattle.md.specs.declared.Limit.{Limit}
 use Rattle.md.specs.declared.Scored.{Scored}
 use Rattle.md.specs.Text.{total, checkpoint}
 use Rattle.md.specs.Scan.{classAt, unclassed, stateAt, stops, sumOf, reaches, scored, acceptedScore, noClass}
 use Rattle.md.specs.Inner.Scan.{refused, scan}
-use Rattle.md.proofs.Laws.Scan.{is-unclassed, state-start, state-within, unless-allowed, unless-at}
+use Rattle.md.proofs.Laws.Scan.{is-unclassed, state-start, state-within, state-fed-count, unless-allowed, unless-at}
 use Rattle.md.specs.declared.runs.Fed.{Fed}
 use Rattle.md.specs.Inner.Going.{stoppedAfter}
 use Rattle.md.specs.Inner.Runs.{Before, Advanced}
@@ -82,16 +82,19 @@ module _ (classes pairs text : List ℕ) (limit : Limit) where
       pub fed-countable : n ≤ LARGEST → Countable (r .state)
       fed-countable m = within-countable (r .next) (r .state) (rw (v .state) (state-within classes pairs text (r .next))) (omega (arith, m, v .ends, g .counted))
 
-      -- the last character that it fed stands at j
-      module _ (j : ℕ) (z : j + 1 ≡ r .next) where
-        pub fed-state : r .state ≡ stateAt classes pairs text (j + 1)
-        fed-state = v .state ∙ rw z
+      pub fed-counted : FedCount (r .state) (r .next)
+      fed-counted = rw (v .state) (state-fed-count classes pairs text (r .next))
+
+      -- the last character that it fed stands at j, and its state is carried on as t
+      module _ (j : ℕ) (z : j + 1 ≡ r .next) (t : Detectors) (e : t ≡ r .state) where
+        fed-state : t ≡ stateAt classes pairs text (j + 1)
+        fed-state = e ∙ v .state ∙ rw z
 
         fed-classed : firstFrom (unclassed classes text) (total text) (j + 1) ≡ first (unclassed classes text) (total text)
         fed-classed =
             rw z (sym (first-passed (unclassed classes text) (total text) i (r .next) (omega (arith, v .begins)) (v .ends) (v .classed)) ∙ g .classed)
 
-        fed-over : (o : Bool) → o ≡ (checkpoint (length text) j && reaches limit (sumOf (r .state))) → stops classes pairs text limit j ≡ o
+        fed-over : (o : Bool) → o ≡ (checkpoint (length text) j && reaches limit (sumOf t)) → stops classes pairs text limit j ≡ o
         unfolding stops
         fed-over o p = sym (p ∙ rw fed-state)
 
@@ -104,12 +107,12 @@ module _ (classes pairs text : List ℕ) (limit : Limit) where
         fed-running = first-passed (stops classes pairs text limit) (total text) i j (omega (arith, z, v .begins)) (omega (arith, z, v .ends)) fed-quiet
 
         -- the scan goes on
-        pub going-on : (o : Bool) → o ≡ (checkpoint (length text) j && reaches limit (sumOf (r .state))) → o ≡ false → Going n (r .state) (r .next)
+        pub going-on : (o : Bool) → o ≡ (checkpoint (length text) j && reaches limit (sumOf t)) → o ≡ false → Going n t (r .next)
         going-on o p q =
             record {
               below = omega (arith, v .ends, g .counted);
               counted = g .counted;
-              state = v .state;
+              state = e ∙ v .state;
               running =
                   rw (← z)
                   (sym (fed-running ∙ first-miss (stops classes pairs text limit) (total text) j (omega (arith, z, v .ends)) (fed-over o p ∙ q)) ∙ g .running);
@@ -117,8 +120,8 @@ module _ (classes pairs text : List ℕ) (limit : Limit) where
             }
 
         -- the scan stops
-        pub going-stopped : (o : Bool) → o ≡ (checkpoint (length text) j && reaches limit (sumOf (r .state))) → o ≡ true
-            → (a : Scored) → a ≡ stoppedAfter classes text (r .state) j → a ≡ scan classes pairs text limit
+        pub going-stopped : (o : Bool) → o ≡ (checkpoint (length text) j && reaches limit (sumOf t)) → o ≡ true
+            → (a : Scored) → a ≡ stoppedAfter classes text t j → a ≡ scan classes pairs text limit
         unfolding scan noClass acceptedScore stoppedAfter
         going-stopped o p q a d =
             let h′ : j < total text = omega (arith, z, v .ends) in

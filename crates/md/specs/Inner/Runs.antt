@@ -14,9 +14,10 @@ use Rattle.classes.specs.Pairs.{suspicious}
 use Rattle.md_counts.specs.CjkInvalidStop.{wrongStop, STOP-UP, STOP-DOWN}
 use Rattle.md_eight.specs.declared.Detectors.{Detectors}
 use Rattle.md_eight.specs.Detectors.{lastRange}
-use Rattle.md_eight.specs.Inner.Runs.{casedRun, lowerClass, LOWER-FIRST, LOWER-LAST, BASIC-LATIN}
+use Rattle.md_eight.specs.Inner.Runs.{casedRun, lowerClass, LOWER-FIRST, LOWER-LAST, BASIC-LATIN, SPACE}
 use Rattle.md.specs.declared.runs.Alike.{Alike}
 use Rattle.md.specs.declared.runs.Fed.{Fed}
+use Rattle.md.specs.declared.scan.Looked.{Looked}
 use Rattle.md.specs.Text.{charAt, total, checkpoint}
 use Rattle.md.specs.Scan.{classAt, stateAt, unclassed}
 
@@ -49,9 +50,19 @@ pub record High (last p r : ℕ) : Type 0 where
   pub most : r ≤ last
   pub before : p < STOP-UP → r < STOP-UP
 
--- a record of a good table holds p, which is no wrong stop
-pub record Lent (classes : List ℕ) (p : ℕ) : Type 0 where
+-- past the built-in table, `at` is the record that holds p if one does
+abbrev pub HeldAt : List ℕ → ℕ → ℕ → Type 0
+HeldAt classes p at = BUILTIN-END ≤ p → at ≡ holder classes p
+
+-- what the lookup finds for the character at i, and the record that it finds it in
+pub record LookedAt (classes text : List ℕ) (i : ℕ) (r : Looked) : Type 0 where
+  pub found : r .found ≡ classAt classes text i
+  pub held : HeldAt classes (charAt text i) (r .held)
+
+-- the record `at` of a good table holds p, which is no wrong stop
+pub record Lent (classes : List ℕ) (p at : ℕ) : Type 0 where
   pub good : goodTable classes ≡ true
+  pub is : at ≡ holder classes p
   pub held : holder classes p < records classes
   pub right : wrongStop p ≡ false
 
@@ -68,6 +79,12 @@ pub record LowerRun (pairs text : List ℕ) (s : Detectors) (i : ℕ) (r : Fed) 
   pub state : r .state
       ≡ casedRun s (lowerClass (charAt text (r .next - 1))) (r .next - i) (charAt text (r .next - 1)) (charAt text (r .next - 1))
       (suspicious pairs (lastRange s) BASIC-LATIN) (suspicious pairs BASIC-LATIN BASIC-LATIN)
+
+-- a space stands at i, and no checkpoint before it
+pub record Spaced (text : List ℕ) (i : ℕ) : Type 0 where
+  pub inside : i < length text
+  pub space : charAt text i ≡ SPACE
+  pub quiet : checkpoint (length text) (i - 1) ≡ false
 
 -- before a step of the scan: the state is that after i characters, and the lookup found c at i
 pub record Before (classes pairs text : List ℕ) (s : Detectors) (c : Class) (i : ℕ) : Type 0 where

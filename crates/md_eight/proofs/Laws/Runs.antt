@@ -3,10 +3,10 @@
 -- Assumes nothing.
 use Prim.Native.Nat.{ℕ, _+_}
 use mathlib.Core.Path.{_≡_, refl, sym, _∙_}
-use mathlib.Core.Bool.{Bool, true, false, not, _&&_, and-comm, and-false, or-true}
+use mathlib.Core.Bool.{Bool, true, false, not, _&&_, and-comm, and-false}
 use borrow.Author.Tests.{not-true}
 use Rattle.base.specs.Flags.{has, WHITESPACE, UNPRINTABLE, SYMBOL, COMMON-SAFE, PUNCTUATION, SEPARATOR, ASCII-ALPHABETIC}
-use Rattle.base.specs.Flags.{LATIN, ALPHABETIC, ACCENTUATED, CJK, CASE-VARIABLE, LOWERCASE, UPPERCASE}
+use Rattle.base.specs.Flags.{LATIN, ALPHABETIC, ACCENTUATED, CASE-VARIABLE, LOWERCASE, UPPERCASE}
 use Rattle.base.proofs.Laws.Tests.{and-l, and-r}
 use Rattle.classes.specs.declared.Class.{Class}
 use Rattle.md_counts.specs.CjkInvalidStop.{wrongStop}
@@ -26,7 +26,7 @@ use Rattle.md_counts.proofs.Laws.CjkInvalidStop as stops
 use Rattle.md_words.proofs.Laws.ArchaicUpperLower as archaic
 use Rattle.md_eight.specs.declared.Detectors.{Detectors}
 use Rattle.md_eight.specs.Detectors.{start, feed, lastRange}
-use Rattle.md_eight.specs.Inner.Runs.{isPlain, isCased, isUncased, isPunctuation, casedRun, uncasedRun, punctuationStep, lowerClass, spaceClass}
+use Rattle.md_eight.specs.Inner.Runs.{isPlain, isCased, isUncased, casedRun, uncasedRun, lowerClass, spaceClass}
 
 -- what the tests of the flags say, as each detector asks it
 record Plain (f : ℕ) : Type 0 where
@@ -107,33 +107,6 @@ uncased-says f e =
       letter = not-true (has f ASCII-ALPHABETIC) (and-r p n1 e1);
       case = rw (not-true (has f CASE-VARIABLE) (and-r (p && n1) n2 e2)) (and-false (has f ALPHABETIC));
       latin = rw (not-true (has f LATIN) (and-r (p && n1 && n2) n3 e)) (and-false (has f ALPHABETIC));
-    }
-
-record Punctuation (f : ℕ) : Type 0 where
-  printable : has f UNPRINTABLE ≡ false
-  forgotten : forgets f ≡ true
-  letter : has f ALPHABETIC ≡ false
-  latin : latinLetter f ≡ false
-  cjk : has f CJK ≡ false
-
-punctuation-says : (f : ℕ) → isPunctuation f ≡ true → Punctuation f
-unfolding isPunctuation forgets latinLetter
-punctuation-says f e =
-    let p = has f PUNCTUATION in
-    let n1 = not (has f UNPRINTABLE) in
-    let n2 = not (has f ALPHABETIC) in
-    let n3 = not (has f ASCII-ALPHABETIC) in
-    let n4 = not (has f CJK) in
-    let e3 = and-l (p && n1 && n2 && n3) n4 e in
-    let e2 = and-l (p && n1 && n2) n3 e3 in
-    let e1 = and-l (p && n1) n2 e2 in
-    let letter = not-true (has f ALPHABETIC) (and-r (p && n1) n2 e2) in
-    record {
-      printable = not-true (has f UNPRINTABLE) (and-r p n1 e1);
-      forgotten = rw (and-l p n1 e1, or-true);
-      letter = letter;
-      latin = rw letter;
-      cjk = not-true (has f CJK) (and-r (p && n1 && n2 && n3) n4 e);
     }
 
 -- letters with case
@@ -243,25 +216,10 @@ pub uncased-last : (s : Detectors) (c : Class) (m p : ℕ) (x y : Bool) → last
 unfolding uncasedRun inRanges.feedRun
 uncased-last s c m p x y = refl
 
--- punctuation and the space forget the last range, so that the pair's bit is not read
+-- the space forgets the last range, so that the pair's bit is not read
 forgets-any : (s : Detectors) (c : Class) (x y : Bool) → has (c .flags) UNPRINTABLE ≡ false → forgets (c .flags) ≡ true → feed s c x ≡ feed s c y
 unfolding feed
 forgets-any s c x y e f = simp (ranges.feed-forgets (s .ranges) c x e f, ranges.feed-forgets (s .ranges) c y e f)
-
-pub punctuation-any : (s : Detectors) (c : Class) (x y : Bool) → isPunctuation (c .flags) ≡ true → feed s c x ≡ feed s c y
-punctuation-any s c x y e = let k = punctuation-says (c .flags) e in forgets-any s c x y (k .printable) (k .forgotten)
-
-pub punctuation-is : (s : Detectors) (c : Class) (x : Bool) → isPunctuation (c .flags) ≡ true → wrongStop (c .point) ≡ false → punctuationStep s c ≡ feed s c x
-unfolding punctuationStep feed
-punctuation-is s c x e w =
-    let k = punctuation-says (c .flags) e in
-    simp (
-      accents.feed-passes (s .accents) c (k .letter),
-      unprintable.run-one (s .unprintable) c (k .printable),
-      ranges.feed-forgets (s .ranges) c x (k .printable) (k .forgotten),
-      doubled.feed-passes (s .doubled) c (k .latin),
-      stops.feed-passes (s .stops) c w (k .cjk),
-    )
 
 pub space-any : (s : Detectors) (x y : Bool) → feed s spaceClass x ≡ feed s spaceClass y
 unfolding has forgets

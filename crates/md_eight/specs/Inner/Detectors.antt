@@ -1,5 +1,7 @@
--- Words of inner contracts, beside Detectors: `Room`, `Countable`. No public promise rests on them.
+-- Words of inner contracts, beside Detectors: `Room`, `Countable`, `FedCount`. No public promise rests on them.
 -- Assumes nothing.
+use Prim.Native.Nat.{ℕ, _+_}
+use mathlib.Core.Path.{_≡_}
 use Rattle.md_eight.specs.declared.Detectors.{Detectors}
 use Rattle.md_eight.specs.Detectors.{counts}
 use Rattle.md_counts.specs.Inner.TooManySymbolOrPunctuation as symbols
@@ -26,3 +28,10 @@ pub record Room (s : Detectors) : Type 0 where
 -- the counts are small enough for ratios
 abbrev pub Countable : Detectors → Type 0
 Countable s = EachSmall (counts s)
+
+-- what n characters come to in the counts that each character adds to, and in those that each printable one does
+pub record FedCount (s : Detectors) (n : ℕ) : Type 0 where
+  pub unprintable : s .unprintable .characters ≡ n
+  pub archaic : s .archaic .characters ≡ n
+  pub symbols : s .symbols .characters + s .unprintable .unprintable ≡ n
+  pub ranges : s .ranges .characters + s .unprintable .unprintable ≡ n

@@ -4,7 +4,7 @@
 use Prim.Native.Nat.{ℕ, _+_}
 use mathlib.Core.Bool.{Bool, not, _&&_}
 use Rattle.base.specs.Flags.{has, WHITESPACE, UNPRINTABLE, SYMBOL, COMMON-SAFE, PUNCTUATION, SEPARATOR, ASCII, ASCII-ALPHABETIC, ASCII-GRAPHIC}
-use Rattle.base.specs.Flags.{LATIN, ALPHABETIC, ACCENTUATED, CJK, CASE-VARIABLE, LOWERCASE, UPPERCASE, CHAR-ALPHABETIC}
+use Rattle.base.specs.Flags.{LATIN, ALPHABETIC, ACCENTUATED, CASE-VARIABLE, LOWERCASE, UPPERCASE, CHAR-ALPHABETIC}
 use Rattle.classes.specs.declared.Class.{Class}
 use Rattle.md_eight.specs.declared.Detectors.{Detectors}
 use Rattle.md_counts.specs.Inner.TooManySymbolOrPunctuation as symbols
@@ -15,10 +15,6 @@ use Rattle.md_neighbours.specs.Inner.SuspiciousDuplicateAccent as doubled
 use Rattle.md_words.specs.Inner.SuperWeirdWord as words
 use Rattle.md_counts.specs.Inner.CjkInvalidStop as stops
 use Rattle.md_words.specs.Inner.ArchaicUpperLower as archaic
-use Rattle.md_counts.specs.TooManySymbolOrPunctuation.{feed as symbols-step}
-use Rattle.md_neighbours.specs.SuspiciousRange.{forgotten}
-use Rattle.md_words.specs.SuperWeirdWord.{feed as words-step}
-use Rattle.md_words.specs.ArchaicUpperLower.{feed as archaic-step}
 
 -- the flags of a character that is printable, closes no word, is no symbol and lets ranges remember
 unfoldable pub isPlain : ℕ → Bool
@@ -42,15 +38,6 @@ isCased f =
     && has f CASE-VARIABLE
     && not (has f LATIN && has f ACCENTUATED)
     && not (has f UPPERCASE && has f LOWERCASE)
-
--- printable punctuation
-unfoldable pub isPunctuation : ℕ → Bool
-isPunctuation f =
-    has f PUNCTUATION
-    && not (has f UNPRINTABLE)
-    && not (has f ALPHABETIC)
-    && not (has f ASCII-ALPHABETIC)
-    && not (has f CJK)
 
 -- m letters with c's flags and range, at least one, the last of them `point`, its base `base`. `suspicious` is as for `feed`, of the first; `again` is the
 -- same of their range after itself
@@ -79,20 +66,6 @@ uncasedRun s c m point suspicious again =
       words = s .words;
       stops = stops.feedRun (s .stops) (c .flags) m;
       archaic = archaic.feedUncased (s .archaic) (c .flags) m;
-    }
-
--- one mark of punctuation: accents, doubled accents and stops pass it over, and ranges forget the last character
-unfoldable pub punctuationStep : Detectors → Class → Detectors
-punctuationStep s c =
-    record {
-      symbols = symbols-step (s .symbols) c;
-      accents = s .accents;
-      unprintable = unprintable.feedRun (s .unprintable) 1;
-      ranges = forgotten (s .ranges);
-      doubled = s .doubled;
-      words = words-step (s .words) c;
-      stops = s .stops;
-      archaic = archaic-step (s .archaic) c;
     }
 
 -- the built-in table's range of ASCII's printable characters

@@ -5,22 +5,18 @@ use borrow.Author.Needs.{needs}
 use Rattle.md.proofs.runs.kin_of.Statement.{statement}
 use Rattle.md.proofs.runs.kin_of.Tie as tie
 
-held-near-requires : tie.Need-held-near-requires
-held-near-requires c κs = c .before .before .pre .good
-
 record-at-requires : tie.Need-record-at-requires
-record-at-requires c κs = rw (c .held-near .ensures) (c .before .before .before .pre .held)
+record-at-requires c κs = let asked = c .before .pre in rw (asked .is) (asked .held)
 
 returns : tie.Need-returns
 returns c =
-    let at-pre = c .before .before .before .before .before .before .pre in
-    alike-made _ _ _ _ _ _ _ (at-pre) (c .before .before .before .held-near .ensures) (c .before .before .record-at .ensures) (c .before .past-stops .ensures) (c .before-stops .ensures) refl
+    let at-pre = c .before .before .before .before .pre in
+    alike-made _ _ _ _ _ _ _ at-pre (c .before .before .record-at .ensures) (c .before .past-stops .ensures) (c .before-stops .ensures) refl
 
 pub kin-of-spec : {M : Type 1} → statement M
 kin-of-spec =
     tie.close
     (tie.spec
-    held-near-requires
     record-at-requires
     (λ c κs. search needs)
     (λ c κs. search needs)

@@ -3,7 +3,8 @@
 use Prim.Native.Nat.{_-_}
 use mathlib.Core.Path.{sym, _∙_}
 use native.Mathlib.Omega.{arith}
-use Rattle.md.proofs.Loops.Going.{Going, going-start, going-before, going-countable, going-missing, fed-countable, going-on, going-stopped, going-ended}
+use Rattle.md.proofs.Loops.Going.{Going, going-start, going-before, going-countable, going-missing, fed-countable, fed-counted, going-on, going-stopped, going-ended}
+use Rattle.md.proofs.Laws.Runs.{before-looked}
 use Rattle.md.proofs.Laws.Scan.{answered-state}
 use borrow.Author.Needs.{needs}
 use Rattle.md.proofs.scan.scan_text_in.Statement.{statement}
@@ -29,8 +30,8 @@ class-at-requires c κs =
     let asked = c .before .before .before .before .before .before .before .pre in
     (asked .tables .good, asked .builtin)
 
-enum-known-c : tie.Need-enum-known-c Inv-loop μ-loop
-enum-known-c c = c .match .keys1
+enum-known-found : tie.Need-enum-known-found Inv-loop μ-loop
+enum-known-found c = c .match .keys1
 
 enum-told : tie.Need-enum-told Inv-loop μ-loop
 enum-told c = c .match .keys2
@@ -50,45 +51,58 @@ returns c =
     let at-loop-test = c .before .before .before .before .before .loop-test in
     c .unscored .ensures
     ∙ going-missing _ _ _ _ (at-loop .inv) (at-loop-test .taken)
-    (sym (c .before .before .before .class-at .ensures) ∙ c .before .enum-told .given .1)
+    (sym (c .before .before .before .class-at .ensures .found) ∙ c .before .enum-told .given .1)
 
 fed-run-requires : tie.Need-fed-run-requires Inv-loop μ-loop
 fed-run-requires c κs =
-    let at-loop = c .before .before .before .before .before .before .before .loop in
-    let at-loop-test = c .before .before .before .before .before .before .loop-test in
-    let at-class-at = c .before .before .before .before .class-at in
-    let asked = c .before .before .before .before .before .before .before .before .before .before .before .before .pre in
-    going-before _ _ _ _ (at-loop .inv) (asked .tables) (asked .short) _ (at-loop-test .taken)
-    (sym (at-class-at .ensures) ∙ c .before .before .c .given .1)
+    let at-loop = c .before .before .before .before .before .before .loop in
+    let at-loop-test = c .before .before .before .before .before .loop-test in
+    let asked = c .before .before .before .before .before .before .before .before .before .before .before .pre in
+    let looked = c .before .before .before .class-at in
+    let found = sym (looked .ensures .found) ∙ c .before .found .given .1 in
+    let here = going-before _ _ _ _ (at-loop .inv) (asked .tables) (asked .short) _ (at-loop-test .taken) found in
+    (here, before-looked _ _ _ _ _ _ here _ (looked .ensures .held))
+
+cast-recounted : tie.Need-cast-recounted Inv-loop μ-loop
+cast-recounted c =
+    let asked = c .before .before .before .before .before .before .before .before .before .before .before .before .before .pre in
+    omega (arith, c .before .fed-run .ensures .ends, asked .short)
+
+recounted-requires : tie.Need-recounted-requires Inv-loop μ-loop
+recounted-requires c κs =
+    let at-loop = c .before .before .before .before .before .before .before .before .loop in
+    fed-counted _ _ _ _ (at-loop .inv) _ (c .before .fed-run .ensures)
 
 sub-is-over : tie.Need-sub-is-over Inv-loop μ-loop
-sub-is-over c = omega (arith, c .before .fed-run .ensures .begins)
+sub-is-over c = omega (arith, c .before .before .fed-run .ensures .begins)
 
 is-over-requires : tie.Need-is-over-requires Inv-loop μ-loop
 is-over-requires c κs =
     let at-loop = c .before .before .before .before .before .before .before .before .before .loop in
     let asked = c .before .before .before .before .before .before .before .before .before .before .before .before .before .before .pre in
-    fed-countable _ _ _ _ (at-loop .inv) _ (c .before .fed-run .ensures) (omega (arith, asked .short))
+    rw (c .recounted .ensures) (fed-countable _ _ _ _ (at-loop .inv) _ (c .before .before .fed-run .ensures) (omega (arith, asked .short)))
 
 sub-stopped-after : tie.Need-sub-stopped-after Inv-loop μ-loop
-sub-stopped-after c = omega (arith, c .before .before .before .fed-run .ensures .begins)
+sub-stopped-after c = omega (arith, c .before .before .before .before .fed-run .ensures .begins)
 
 stopped-after-requires : tie.Need-stopped-after-requires Inv-loop μ-loop
 stopped-after-requires c κs =
     let at-loop = c .before .before .before .before .before .before .before .before .before .before .before .before .loop in
     let asked = c .before .before .before .before .before .before .before .before .before .before .before .before .before .before .before .before .before .pre in
-    let went = c .before .before .before .before .fed-run in (
+    let same = c .before .before .before .recounted .ensures in
+    let went = c .before .before .before .before .before .fed-run in (
       asked .tables .good,
       asked .short,
       omega (arith, went .ensures .begins, went .ensures .ends),
-      fed-countable _ _ _ _ (at-loop .inv) _ (went .ensures) (omega (arith, asked .short)),
+      rw same (fed-countable _ _ _ _ (at-loop .inv) _ (went .ensures) (omega (arith, asked .short))),
     )
 
 returns-2 : tie.Need-returns-2 Inv-loop μ-loop
 returns-2 c =
     let at-loop = c .before .before .before .before .before .before .before .before .before .before .before .before .before .loop in
-    let went = c .before .before .before .before .before .fed-run in
-    going-stopped _ _ _ _ (at-loop .inv) _ (went .ensures) _ (omega (arith, went .ensures .begins))
+    let same = c .before .before .before .before .recounted .ensures in
+    let went = c .before .before .before .before .before .before .fed-run in
+    going-stopped _ _ _ _ (at-loop .inv) _ (went .ensures) _ (omega (arith, went .ensures .begins)) _ same
     _
     (c .before .before .before .is-over .ensures)
     (c .before .before .if1 .taken)
@@ -98,13 +112,13 @@ returns-2 c =
 loop-less : tie.Need-loop-less Inv-loop μ-loop
 loop-less c =
     let at-loop-test = c .before .before .before .before .before .before .before .before .before .before .loop-test in
-    omega (arith, c .before .before .before .fed-run .ensures .begins, at-loop-test .taken)
+    omega (arith, c .before .before .before .before .fed-run .ensures .begins, at-loop-test .taken)
 
 loop-again : tie.Need-loop-again Inv-loop μ-loop
 loop-again c =
     let at-loop = c .before .before .before .before .before .before .before .before .before .before .before .loop in
-    let went = c .before .before .before .fed-run in
-    going-on _ _ _ _ (at-loop .inv) _ (went .ensures) _ (omega (arith, went .ensures .begins))
+    let went = c .before .before .before .before .fed-run in
+    going-on _ _ _ _ (at-loop .inv) _ (went .ensures) _ (omega (arith, went .ensures .begins)) _ (c .before .before .recounted .ensures)
     _
     (c .before .is-over .ensures)
     (c .if1 .left)
@@ -138,12 +152,14 @@ scan-text-in-spec =
     start-requires
     loop-holds
     class-at-requires
-    enum-known-c
+    enum-known-found
     enum-told
     cast-unscored
     unscored-requires
     returns
     fed-run-requires
+    cast-recounted
+    recounted-requires
     sub-is-over
     is-over-requires
     sub-stopped-after
