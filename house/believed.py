@@ -36,8 +36,8 @@ CALLS = {
 }
 # Statements that are promises themselves.
 STATEMENTS = [
-    ("md", "DemandThree", "demand-three"),  # demand 3
-    ("md", "Counts", "counts-so"),  # 02 [7]: what the counts of an answer say of its ratios and of demand 3's fractions
+    ("md_meaning", "DemandThree", "demand-three"),  # demand 3
+    ("md_meaning", "Counts", "counts-so"),  # 02 [7]: what the counts of an answer say of its ratios and of demand 3's fractions
     ("utf8", "Read", "accepted-encodes"),  # the reader's text is the one whose encoding the bytes are
     ("utf8_write", "RoundTrips", "written-bytes"),  # the bytes written are the encodings of the text, one after the other
     ("utf8_write", "RoundTrips", "written-read"),  # reading what was written gives the text
@@ -45,9 +45,9 @@ STATEMENTS = [
     ("page", "RoundTrips", "write-after-read"),  # writing what was read gives the same bytes
     ("page", "RoundTrips", "read-after-write"),  # reading what was written gives the same text
     ("marked_cases", "Marked", "marked"),  # 01's cases (a) to (l)
-    ("md_running", "Line", "line-follows"),  # 02 [6]: the state after k characters is the scan's, up to the stop, and stays there after it
-    ("md_running", "Line", "line-whole"),  # a line that was fed in full answers what the whole call answers
-    ("md_running", "Chunk", "chunk-one-by-one"),  # an accepted chunk leaves what its characters leave one by one
+    ("md_running_meaning", "Line", "line-follows"),  # 02 [6]: the state after k characters is the scan's, up to the stop, and stays there after it
+    ("md_running_meaning", "Line", "line-whole"),  # a line that was fed in full answers what the whole call answers
+    ("md_running_meaning", "Chunk", "chunk-one-by-one"),  # an accepted chunk leaves what its characters leave one by one
     ("md_growth", "Growth", "last-growth"),  # 02 [8]: the state keeps the index of each detector's last growth
     ("class_compact", "Back", "packed-unpacked"),  # 02 [9]: a good table packs to a good compact one and comes back with the same bytes
     ("class_compact", "Back", "unpacked-packed"),  # and the other way round

@@ -38,11 +38,11 @@ def law_among_definitions(tree):
 
 
 def believed_word_inside(tree):
-    inner = tree / "crates/md/specs/Inner/Strange.antt"
+    inner = tree / "crates/md_meaning/specs/Inner/Strange.antt"
     write(inner, "-- Assumes nothing.\nuse lib.Ieee.{Float, ofBits, binary32}\n\nabbrev pub DEFAULT : Float\nDEFAULT = ofBits binary32 0x3E19999A\n")
-    page = tree / "crates/md/specs/MessRatio.antt"
+    page = tree / "crates/md_meaning/specs/MessRatio.antt"
     changed(page, "DEFAULT-THRESHOLD = ofBits binary32 0x3E19999A", "DEFAULT-THRESHOLD = DEFAULT")
-    changed(page, "use Rattle.md.specs.Scan", "use Rattle.md.specs.Inner.Strange.{DEFAULT}\nuse Rattle.md.specs.Scan")
+    changed(page, "use Rattle.md_meaning.specs.Scan", "use Rattle.md_meaning.specs.Inner.Strange.{DEFAULT}\nuse Rattle.md_meaning.specs.Scan")
 
 
 def strange_line(tree):

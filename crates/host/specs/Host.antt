@@ -7,8 +7,8 @@ use Rattle.base.specs.Counted.{values}
 use Rattle.base.specs.Numbers.{bump}
 use Rattle.ratio.specs.declared.Shown.{Shown}
 use Rattle.ratio.specs.declared.EightShown.{EightShown}
-use Rattle.md.specs.declared.Scored.{Scored}
-use Rattle.md.specs.Values.{Values as ScoreValues, values as scoreValues}
+use Rattle.md_meaning.specs.declared.Scored.{Scored}
+use Rattle.md_meaning.specs.Values.{Values as ScoreValues, values as scoreValues}
 use Rattle.md_chooser.specs.declared.Judged.{Judged}
 use Rattle.md_chooser.specs.Choose.{values as verdictValues}
 use Rattle.ring.specs.declared.Ringed.{Ringed}

@@ -3,9 +3,9 @@
 -- Assumes nothing.
 use Prim.Native.Nat.{ℕ}
 use mathlib.Core.List.{List}
-use Rattle.md_running.specs.Feeding.{feedLine}
-use Rattle.md_running.specs.Chunk.{feedChunk}
-use Rattle.md_running.specs.Closing.{closeLine}
+use Rattle.md_running_meaning.specs.Feeding.{feedLine}
+use Rattle.md_running_meaning.specs.Chunk.{feedChunk}
+use Rattle.md_running_meaning.specs.Closing.{closeLine}
 use Rattle.md_lent.specs.declared.HostRunning.{HostRunning}
 use Rattle.md_lent.specs.declared.LentFed.{LentFed}
 use Rattle.md_lent.specs.Lent.{runningOf, fedLent}

@@ -6,8 +6,8 @@ use Rattle.base.specs.declared.Cause.the-variants.{Allowed, Refused}
 use Rattle.base.specs.Refusals.{ACCEPTED, UNCLASSED}
 use Rattle.classes.specs.declared.Found.{Found}
 use Rattle.classes.specs.declared.Found.the-variants.{At, Nothing}
-use Rattle.md_reason.specs.declared.Reasoned.{Reasoned}
-use Rattle.md_reason.specs.Reason.{values}
+use Rattle.md_reason_meaning.specs.declared.Reasoned.{Reasoned}
+use Rattle.md_reason_meaning.specs.Reason.{values}
 use Rattle.host.specs.declared.HostClass.{HostClass}
 use Rattle.host.specs.declared.HostReason.{HostReason}
 

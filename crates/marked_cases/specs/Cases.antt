@@ -17,9 +17,9 @@ use Rattle.classes.specs.declared.Found.{Found}
 use Rattle.classes.specs.declared.Found.the-variants.{At, Nothing}
 use Rattle.classes.specs.Lookup.{classOf}
 use Rattle.class_records.specs.Records.{goodTable}
-use Rattle.md.specs.declared.Scored.{Scored}
-use Rattle.md.specs.declared.Scored.the-variants.{Score, Refused}
-use Rattle.md.specs.MessRatio.{messRatio}
+use Rattle.md_meaning.specs.declared.Scored.{Scored}
+use Rattle.md_meaning.specs.declared.Scored.the-variants.{Score, Refused}
+use Rattle.md_meaning.specs.MessRatio.{messRatio}
 use Rattle.program.specs.Program.{NO-CLASSES, NO-PAIRS}
 use Rattle.pieces.specs.Words.{codes}
 use Rattle.marked_cases.specs.Alone.{Detector, Symbols, Accents, Ranges, Stops, Archaic, ratioOf}

@@ -1,12 +1,4 @@
 pub mod Ascii
-pub mod Accepted
-pub mod Counts
-pub mod Default
-pub mod DemandThree
-pub mod Lent
-pub mod MessRatio
-pub mod Plain
 pub mod Rest
 pub mod Runs
-pub mod Scan
 pub mod Whole

@@ -1,11 +1,13 @@
 // The scan of a text, and mess_ratio (md.rs): how much of a text is noise.
 ghost use mathlib.Core.Path.{_≡_};
-ghost use Rattle.md.specs.Inner.Scan.{refused};
-ghost use Rattle.md.specs.MessRatio.{messRatio, messRatioDefault, wholeScore};
+ghost use Rattle.md_meaning.specs.Inner.Scan.{refused};
+ghost use Rattle.md_meaning.specs.MessRatio.{messRatio, messRatioDefault, wholeScore};
 use base::Cause;
 use base::Refusal;
 use base::limits::LONGEST_TEXT;
 use base::refusals::TOO_LONG;
+use md_meaning::Limit;
+use md_meaning::Scored;
 use ratio::EightShown;
 use ratio::Ratios;
 use scan::scan_text;
@@ -21,26 +23,6 @@ mod whole;
 
 // f32 0.15, which is used where no threshold is given: stricter than the 0.2 of 01 (02 [5]).
 pub const DEFAULT_THRESHOLD: f32 = 0.15;
-
-// When a scan stops early: where the sum is at or above a threshold at a checkpoint, or never.
-pub enum Limit {
-    Threshold(f32),
-    Never,
-}
-
-// What 01's score answer holds: the eight ratios, their sum, the characters fed, and whether the scan stopped early; and 02's counts of each ratio.
-pub struct Score {
-    pub ratios: Ratios,
-    pub sum: f32,
-    pub fed: u32,
-    pub stopped: bool,
-    pub counts: EightShown,
-}
-
-pub enum Scored {
-    Score(Score),
-    Refused(Refusal),
-}
 
 pub fn unscored(number: u32, place: u32) -> Scored
     ensures { λ r. ⌜ r ≡ refused number place ⌝ }

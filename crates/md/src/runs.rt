@@ -10,7 +10,7 @@ ghost use Rattle.classes.specs.Lookup.{orSelf};
 ghost use Rattle.md_eight.specs.Detectors.{lastRange};
 ghost use Rattle.md_eight.specs.Inner.Detectors.{Room};
 ghost use Rattle.md_eight.specs.Inner.Runs as kinds;
-ghost use Rattle.md.specs.Text.{total};
+ghost use Rattle.md_meaning.specs.Text.{total};
 ghost use Rattle.md.specs.Inner.Runs.{Low, High, AlikeOf, Run, LowerRun, Before, Lent, HeldAt, Spaced, Advanced};
 use crate::rest::past_within;
 use crate::scan::fed;

@@ -1,6 +1,6 @@
 // The check of what is lent beside a text. It does not depend on the text, so that many texts need it once.
 ghost use mathlib.Core.Path.{_≡_};
-ghost use Rattle.md.specs.Inner.Lent.{badTables, badLent};
+ghost use Rattle.md_meaning.specs.Inner.Lent.{badTables, badLent};
 use base::Cause;
 use base::refusals::NOT_FINITE;
 use base::refuse;

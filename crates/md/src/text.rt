@@ -3,7 +3,7 @@ ghost use mathlib.Core.Path.{_≡_};
 ghost use Prim.Native.Nat.{_≤_, _<_};
 ghost use lib.ListN.{length};
 ghost use Rattle.base.specs.Limits.{LONGEST-TEXT};
-ghost use Rattle.md.specs.Text.{charAt, checkpoint};
+ghost use Rattle.md_meaning.specs.Text.{charAt, checkpoint};
 ghost use Rattle.md.specs.Inner.Runs.{Nearer, Piece};
 use base::limits::NEWLINE;
 

@@ -7,9 +7,9 @@ use Prim.Native.Nat.{ℕ}
 use mathlib.Core.Bool.{cond}
 use mathlib.Core.List.{List, []}
 use lib.Ieee.{lt}
-use Rattle.md.specs.declared.Scored.{Scored}
-use Rattle.md.specs.declared.Scored.the-variants.{Score, Refused}
-use Rattle.md.specs.MessRatio.{wholeScore}
+use Rattle.md_meaning.specs.declared.Scored.{Scored}
+use Rattle.md_meaning.specs.declared.Scored.the-variants.{Score, Refused}
+use Rattle.md_meaning.specs.MessRatio.{wholeScore}
 use Rattle.md_chooser.specs.declared.Judged.{Judged}
 use Rattle.md_chooser.specs.declared.Judged.the-variants.{First, Second, FirstRefused, SecondRefused}
 use Rattle.md_chooser.specs.Cut.{cut}

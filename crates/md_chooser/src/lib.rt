@@ -7,7 +7,7 @@ ghost use Rattle.md_chooser.specs.Choose.{chosen, takenFrom, verdictOf};
 ghost use Rattle.md_chooser.specs.Choose.{judged as judgedBy};
 use base::Refusal;
 use base::limits::NEWLINE;
-use md::Scored;
+use md_meaning::Scored;
 
 // What the verdict call says: which text is the more readable, or which was refused, and why.
 pub enum Judged {

@@ -11,8 +11,8 @@ use Rattle.base.specs.Causes.{firstOf}
 use Rattle.base.specs.Counted.{countUnless, lentAfter}
 use Rattle.classes.specs.Pairs.{badPairs}
 use Rattle.ratio.specs.Finite.{notFinite}
-use Rattle.md_lines.specs.Lines.{linesOf}
-use Rattle.md_lines.specs.Burst.{manyBytes, noRoom, rows}
+use Rattle.md_lines_meaning.specs.Lines.{linesOf}
+use Rattle.md_lines_meaning.specs.Burst.{manyBytes, noRoom, rows}
 use Rattle.class_compact.specs.Unpacked.{unpacked}
 use Rattle.class_compact.specs.Check.{badCompact}
 

@@ -11,10 +11,10 @@ use Rattle.utf8.specs.Text.{textOf}
 use Rattle.utf8.specs.Answer.{manyBytes, illFormed, manyPoints}
 use Rattle.classes.specs.Pairs.{badPairs}
 use Rattle.ratio.specs.Finite.{notFinite}
-use Rattle.md.specs.declared.Limit.the-variants.{Threshold}
-use Rattle.md.specs.declared.Scored.{Scored}
-use Rattle.md.specs.MessRatio.{DEFAULT-THRESHOLD, tooLong}
-use Rattle.md.specs.Scan.{acceptedScore, noClass, unless}
+use Rattle.md_meaning.specs.declared.Limit.the-variants.{Threshold}
+use Rattle.md_meaning.specs.declared.Scored.{Scored}
+use Rattle.md_meaning.specs.MessRatio.{DEFAULT-THRESHOLD, tooLong}
+use Rattle.md_meaning.specs.Scan.{acceptedScore, noClass, unless}
 use Rattle.class_compact.specs.Unpacked.{unpacked}
 use Rattle.class_compact.specs.Check.{badCompact}
 

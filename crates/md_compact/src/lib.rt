@@ -15,8 +15,8 @@ use class_compact::fault::beyond_table;
 use class_compact::wrong_list;
 use first::first_of_text;
 use md::DEFAULT_THRESHOLD;
-use md::Scored;
 use md::mess_ratio;
+use md_meaning::Scored;
 
 mod first;
 pub mod lines;

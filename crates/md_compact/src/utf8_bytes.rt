@@ -14,7 +14,7 @@ use class_compact::expand::unpack_into;
 use class_compact::fault::beyond_table;
 use class_compact::wrong_list;
 use md::DEFAULT_THRESHOLD;
-use md::Scored;
+use md_meaning::Scored;
 use md_utf8::mess_ratio_utf8;
 
 fn score_utf8_table(

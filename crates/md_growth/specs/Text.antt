@@ -1,5 +1,5 @@
 -- Growth over a text (02 [8]: "the indexes of the fed characters at which that detector's numerator grew", "the index of the last growth"): each
--- detector's numerator by the detector's number, whether it grows at the character at i, by the scan's own steps (md, Scan: stateAt), the place of the
+-- detector's numerator by the detector's number, whether it grows at the character at i, by the scan's own steps (md_meaning, Scan: stateAt), the place of the
 -- last growth before i, and the watched state after i characters. That its eight are stateAt's and its places are those of the last growths are the laws
 -- `watched-eight` and `last-growth`, in proofs/Laws/Growth.
 -- Assumes nothing.
@@ -12,8 +12,8 @@ use Rattle.classes.specs.declared.Class.{Class}
 use Rattle.classes.specs.Pairs.{suspicious}
 use Rattle.ratio.specs.declared.EightCounts.{EightCounts}
 use Rattle.md_eight.specs.Detectors.{counts, lastRange}
-use Rattle.md.specs.Text.{charAt}
-use Rattle.md.specs.Scan.{classIn, classAt, stateAt}
+use Rattle.md_meaning.specs.Text.{charAt}
+use Rattle.md_meaning.specs.Scan.{classIn, classAt, stateAt}
 use Rattle.md_growth.specs.declared.Growths.{Growths}
 use Rattle.md_growth.specs.declared.Watched.{Watched}
 use Rattle.md_growth.specs.Growth.{start, watch}

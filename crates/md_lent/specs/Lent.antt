@@ -13,10 +13,10 @@ use Rattle.base.specs.Numbers.{bump}
 use Rattle.ratio.specs.Rounded.{bitsOf}
 use Rattle.md_eight.specs.declared.Detectors.{Detectors}
 use Rattle.md_growth.specs.declared.Growths.{Growths}
-use Rattle.md_running.specs.declared.Running.{Running}
-use Rattle.md_running.specs.declared.Opened.{Opened}
-use Rattle.md_running.specs.declared.Fed.{Fed}
-use Rattle.md_running.specs.Opening.{values}
+use Rattle.md_running_meaning.specs.declared.Running.{Running}
+use Rattle.md_running_meaning.specs.declared.Opened.{Opened}
+use Rattle.md_running_meaning.specs.declared.Fed.{Fed}
+use Rattle.md_running_meaning.specs.Opening.{values}
 use Rattle.md_lent.specs.declared.HostRunning.{HostRunning}
 use Rattle.md_lent.specs.declared.HostOpened.{HostOpened}
 use Rattle.md_lent.specs.declared.LentFed.{LentFed}

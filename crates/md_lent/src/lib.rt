@@ -1,17 +1,17 @@
 // A running line as a host keeps it (02 [6]): 48 u32, which the host lends. Whatever stands in them has a meaning, the threshold being its bits and a mark a
 // number that is true where it is not 0; and the calls of the running score over them, by value.
 ghost use mathlib.Core.Path.{_≡_};
-ghost use Rattle.md_running.specs.Opening.{openLine};
-ghost use Rattle.md_running.specs.Feeding.{feedLine};
-ghost use Rattle.md_running.specs.Chunk.{feedChunk};
-ghost use Rattle.md_running.specs.Closing.{closeLine};
+ghost use Rattle.md_running_meaning.specs.Opening.{openLine};
+ghost use Rattle.md_running_meaning.specs.Feeding.{feedLine};
+ghost use Rattle.md_running_meaning.specs.Chunk.{feedChunk};
+ghost use Rattle.md_running_meaning.specs.Closing.{closeLine};
 ghost use Rattle.md_lent.specs.Lent as lent;
 use base::Counted;
 use base::refusals::ACCEPTED;
-use md::Scored;
-use md_running::Fed;
-use md_running::Opened;
-use md_running::Running;
+use md_meaning::Scored;
+use md_running_meaning::Fed;
+use md_running_meaning::Opened;
+use md_running_meaning::Running;
 use numbers::lent_of;
 use numbers::no_lent;
 use numbers::running_of;

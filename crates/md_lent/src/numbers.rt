@@ -23,7 +23,7 @@ use md_growth::Growths;
 use md_growth::Watched;
 use md_neighbours::suspicious_duplicate_accent::SuspiciousDuplicateAccent;
 use md_neighbours::suspicious_range::SuspiciousRange;
-use md_running::Running;
+use md_running_meaning::Running;
 use md_words::archaic_upper_lower::ArchaicUpperLower;
 use md_words::super_weird_word::SuperWeirdWord;
 

@@ -1,3 +1,1 @@
-pub mod Burst
-pub mod Lines
 pub mod Inner

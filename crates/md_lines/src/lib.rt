@@ -1,7 +1,7 @@
 // Many lines scored in one call: the tables are checked once, so that a burst of short lines costs what its characters cost.
 ghost use mathlib.Core.Path.{_≡_};
 ghost use lib.ListN.{length};
-ghost use Rattle.md_lines.specs.Burst as bursts;
+ghost use Rattle.md_lines_meaning.specs.Burst as bursts;
 use base::Cause;
 use base::Counted;
 use base::not_counted;

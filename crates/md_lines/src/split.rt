@@ -2,9 +2,9 @@
 ghost use mathlib.Core.Path.{_≡_};
 ghost use Prim.Native.Nat.{_+_, _≤_};
 ghost use lib.ListN.{length};
-ghost use Rattle.md_lines.specs.Lines.{linesOf};
-ghost use Rattle.md_lines.specs.Inner.Lines.{BLOCK, Passing, LineEnd, endsOf, noEndOn};
-ghost use Rattle.md_lines.specs.Burst as bursts;
+ghost use Rattle.md_lines_meaning.specs.Lines.{linesOf};
+ghost use Rattle.md_lines_meaning.specs.Inner.Lines.{BLOCK, Passing, LineEnd, endsOf, noEndOn};
+ghost use Rattle.md_lines_meaning.specs.Burst as bursts;
 use base::one;
 use base::wide;
 

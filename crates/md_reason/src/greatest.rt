@@ -1,6 +1,6 @@
 // The first detector with the greatest of the eight ratios.
 ghost use mathlib.Core.Path.{_≡_};
-ghost use Rattle.md_reason.specs.Greatest.{atLeastAll, firstGreatest, detectorOf};
+ghost use Rattle.md_reason_meaning.specs.Greatest.{atLeastAll, firstGreatest, detectorOf};
 use ratio::DETECTORS;
 use ratio::Ratios;
 

@@ -5,31 +5,22 @@ ghost use lib.ListN.{length};
 ghost use Rattle.base.specs.Limits.{LONGEST-TEXT};
 ghost use Rattle.classes.specs.Inner.Tables.{Tables};
 ghost use Rattle.ratio.specs.Eight.{DETECTORS};
-ghost use Rattle.md.specs.Text.{total};
-ghost use Rattle.md_reason.specs.Reason.{reasonAnswer, reasonInto};
-ghost use Rattle.md_reason.specs.Inner.Reason.{refused, listedAnswer, listedInto};
+ghost use Rattle.md_meaning.specs.Text.{total};
+ghost use Rattle.md_reason_meaning.specs.Reason.{reasonAnswer, reasonInto};
+ghost use Rattle.md_reason_meaning.specs.Inner.Reason.{refused, listedAnswer, listedInto};
 use base::Refusal;
 use base::refusals::NO_ROOM;
 use greatest::detector_of;
 use growing::count_growths;
 use growing::put_growths;
-use md::Scored;
 use md::mess_ratio;
+use md_meaning::Scored;
+use md_reason_meaning::Reasoned;
+use md_reason_meaning::Why;
 
 mod greatest;
 mod growing;
 pub mod utf8_bytes;
-
-// The detector, 1 to 8 in md.rs's order or 0 where the greatest ratio is 0, and how many indexes were listed.
-pub struct Why {
-    pub detector: u32,
-    pub count: u32,
-}
-
-pub enum Reasoned {
-    Told(Why),
-    Refused(Refusal),
-}
 
 fn unreasoned(number: u32, place: u32) -> Reasoned
     ensures { λ r. ⌜ r ≡ refused number place ⌝ }

@@ -4,12 +4,12 @@ ghost use Prim.Native.Nat.{_≤_};
 ghost use lib.ListN.{length};
 ghost use Rattle.utf8.specs.Text.{textOf};
 ghost use Rattle.utf8.specs.Inner.Readable.{Readable};
-ghost use Rattle.md_reason.specs.Reason.{reasonAnswer, reasonInto};
-ghost use Rattle.md_reason.specs.ReasonUtf8.{utf8Answer, utf8Into};
-use crate::Reasoned;
+ghost use Rattle.md_reason_meaning.specs.Reason.{reasonAnswer, reasonInto};
+ghost use Rattle.md_reason_meaning.specs.ReasonUtf8.{utf8Answer, utf8Into};
 use crate::reason;
 use base::Counted;
 use base::limits::LONGEST_TEXT;
+use md_reason_meaning::Reasoned;
 
 // The text of the bytes, n code points, put into the first places of room, and its reason.
 fn reason_through(

@@ -2,11 +2,9 @@
 ghost use mathlib.Core.Path.{_≡_};
 ghost use Prim.Native.Nat.{_+_};
 ghost use lib.ListN.{length};
-ghost use Rattle.md_running.specs.Feeding.{fedUnless};
-ghost use Rattle.md_running.specs.Chunk as chunks;
-ghost use Rattle.md_running.specs.Inner.Chunk.{Chunk};
-use crate::Fed;
-use crate::Running;
+ghost use Rattle.md_running_meaning.specs.Feeding.{fedUnless};
+ghost use Rattle.md_running_meaning.specs.Chunk as chunks;
+ghost use Rattle.md_running_meaning.specs.Inner.Chunk.{Chunk};
 use crate::state::is_unsound;
 use crate::step::take;
 use crate::step::unfed;
@@ -15,6 +13,8 @@ use base::Refusal;
 use base::refusals::BAD_STATE;
 use base::refusals::UNCLASSED;
 use classes::Found;
+use md_running_meaning::Fed;
+use md_running_meaning::Running;
 
 // Feeds each character in turn. The state given is still there where one of them is refused.
 pub fn feed_each(s: Running, text: &[u32], classes: &[u8], pairs: &[u8]) -> Fed

@@ -2,10 +2,9 @@
 ghost use mathlib.Core.Path.{_≡_};
 ghost use Rattle.base.specs.Limits.{NEWLINE};
 ghost use Rattle.classes.specs.Lookup.{builtinClass};
-ghost use Rattle.md.specs.Scan.{unless};
-ghost use Rattle.md_running.specs.Closing as closings;
-ghost use Rattle.md_running.specs.Inner.Sound.{Sound};
-use crate::Running;
+ghost use Rattle.md_meaning.specs.Scan.{unless};
+ghost use Rattle.md_running_meaning.specs.Closing as closings;
+ghost use Rattle.md_running_meaning.specs.Inner.Sound.{Sound};
 use crate::over::over_at;
 use base::flags::ASCII;
 use base::flags::SEPARATOR;
@@ -13,11 +12,12 @@ use base::flags::WHITESPACE;
 use base::limits::NEWLINE;
 use base::refusals::LINE_SHORT;
 use classes::Class;
-use md::Scored;
 use md::scan::scored;
 use md::unscored;
 use md_eight::Detectors;
 use md_growth::fed_watched;
+use md_meaning::Scored;
+use md_running_meaning::Running;
 
 // The class of the newline, which the built-in table has: no table is lent to a closing.
 fn newline() -> Class

@@ -1,10 +1,10 @@
 // The score of a line while it arrives (02 [6]): the line is opened with its length, fed one character a call or a chunk, and closed. The state goes in by
 // value and comes back; the host's entries are lent it and store what comes back.
 ghost use mathlib.Core.Path.{_≡_};
-ghost use Rattle.md_running.specs.Opening as opening;
-ghost use Rattle.md_running.specs.Feeding as feeding;
-ghost use Rattle.md_running.specs.Chunk.{feedChunk};
-ghost use Rattle.md_running.specs.Closing as closing;
+ghost use Rattle.md_running_meaning.specs.Opening as opening;
+ghost use Rattle.md_running_meaning.specs.Feeding as feeding;
+ghost use Rattle.md_running_meaning.specs.Chunk.{feedChunk};
+ghost use Rattle.md_running_meaning.specs.Closing as closing;
 use base::Cause;
 use base::Counted;
 use base::Refusal;
@@ -12,9 +12,12 @@ use base::limits::LONGEST_TEXT;
 use base::refusals::TOO_LONG;
 use chunk::feed_each;
 use closing::close_sound;
-use md::Scored;
 use md::tables::check_lent;
 use md_growth::Watched;
+use md_meaning::Scored;
+use md_running_meaning::Fed;
+use md_running_meaning::Opened;
+use md_running_meaning::Running;
 use state::bad_state;
 use step::check_feed;
 use step::feed_checked;
@@ -26,27 +29,6 @@ mod closing;
 mod over;
 mod state;
 mod step;
-
-// A line of which some characters have arrived. `fed` of them were fed; the others came after the scan had stopped.
-pub struct Running {
-    pub length: u32,
-    pub received: u32,
-    pub fed: u32,
-    pub threshold: f32,
-    pub stopped: bool,
-    pub watched: Watched,
-}
-
-pub enum Opened {
-    Running(Running),
-    Refused(Refusal),
-}
-
-// The state after a feeding call, which is the one given where the call refused; and the number received, or why it refused.
-pub struct Fed {
-    pub state: Running,
-    pub answer: Counted,
-}
 
 // A line of `length` characters of which none has arrived.
 pub fn open_line(length: u32, threshold: f32, classes: &[u8], pairs: &[u8]) -> Opened

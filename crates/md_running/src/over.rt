@@ -3,9 +3,9 @@
 ghost use mathlib.Core.Path.{_≡_};
 ghost use mathlib.Core.Bool.{_&&_};
 ghost use Rattle.md_eight.specs.Inner.Detectors.{Countable};
-ghost use Rattle.md.specs.declared.Limit.the-variants.{Threshold};
-ghost use Rattle.md.specs.Text.{checkpoint};
-ghost use Rattle.md.specs.Scan.{reaches, sumOf};
+ghost use Rattle.md_meaning.specs.declared.Limit.the-variants.{Threshold};
+ghost use Rattle.md_meaning.specs.Text.{checkpoint};
+ghost use Rattle.md_meaning.specs.Scan.{reaches, sumOf};
 use md_eight::Detectors;
 use ratio::rounding;
 

@@ -1,12 +1,12 @@
 // Which states are refused (19): nobody knows where a lent state has been.
 ghost use mathlib.Core.Path.{_≡_};
-ghost use Rattle.md_running.specs.State.{countsIn, anyAbove, unsound, badState};
-use crate::Running;
+ghost use Rattle.md_running_meaning.specs.State.{countsIn, anyAbove, unsound, badState};
 use base::Cause;
 use base::limits::LAST_RANGE;
 use base::limits::LONGEST_TEXT;
 use base::refusals::BAD_STATE;
 use base::refuse;
+use md_running_meaning::Running;
 use ratio::finite::is_finite;
 
 // How many counts a state has.

@@ -4,13 +4,11 @@ ghost use Prim.Native.Nat.{_+_};
 ghost use Rattle.base.specs.declared.Cause.the-variants.{Refused};
 ghost use Rattle.classes.specs.Inner.Tables.{Tables};
 ghost use Rattle.classes.specs.Lookup.{classOf};
-ghost use Rattle.md.specs.Scan.{classIn};
-ghost use Rattle.md_running.specs.Opening.{fresh};
-ghost use Rattle.md_running.specs.Feeding as feeding;
-ghost use Rattle.md_running.specs.Inner.Sound.{Sound};
-ghost use Rattle.md_running.specs.Inner.Step.{Taking, HasRoom, badCall};
-use crate::Fed;
-use crate::Running;
+ghost use Rattle.md_meaning.specs.Scan.{classIn};
+ghost use Rattle.md_running_meaning.specs.Opening.{fresh};
+ghost use Rattle.md_running_meaning.specs.Feeding as feeding;
+ghost use Rattle.md_running_meaning.specs.Inner.Sound.{Sound};
+ghost use Rattle.md_running_meaning.specs.Inner.Step.{Taking, HasRoom, badCall};
 use crate::over::over_at;
 use crate::state::bad_state;
 use base::Cause;
@@ -23,6 +21,8 @@ use classes::Class;
 use classes::Found;
 use md::tables::check_tables;
 use md_growth::Watched;
+use md_running_meaning::Fed;
+use md_running_meaning::Running;
 
 // A line of which none has arrived.
 pub fn fresh_line(length: u32, threshold: f32) -> Running

@@ -10,9 +10,9 @@ use lib.ListN.{length}
 use Rattle.base.specs.declared.Cause.{Cause}
 use Rattle.base.specs.Causes.{given}
 use Rattle.base.specs.Refusals.{TOO-LONG}
-use Rattle.md.specs.declared.Scored.{Scored}
-use Rattle.md.specs.Scan.{unless}
-use Rattle.md.specs.MessRatio.{messRatio}
+use Rattle.md_meaning.specs.declared.Scored.{Scored}
+use Rattle.md_meaning.specs.Scan.{unless}
+use Rattle.md_meaning.specs.MessRatio.{messRatio}
 
 -- "at most 4,096 code points"
 abbrev pub SECOND-LONGEST : ℕ

@@ -8,7 +8,7 @@ use base::refusals::NOT_FINITE;
 use base::refusals::TOO_LONG;
 use classes::bad_classes;
 use classes::bad_pairs;
-use md::Scored;
+use md_meaning::Scored;
 use ratio::finite::is_finite;
 use scan::second_refused;
 use scan::second_scan;

@@ -8,7 +8,7 @@ use mathlib.Core.Bool.{true, false}
 use lib.IntN.{pos}
 use lib.Ieee.{Float, binary32, ofInt, le}
 use Rattle.ratio.specs.Finite.{isFinite}
-use Rattle.md.specs.declared.Score.{Score}
+use Rattle.md_meaning.specs.declared.Score.{Score}
 
 -- two finite thresholds, the second at or above the first in the order of f32: equal ones are so, and -0.0 and +0.0 either way
 pub record Higher (lower upper : Float) : Type 0 where

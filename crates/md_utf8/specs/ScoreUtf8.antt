@@ -9,10 +9,10 @@ use Rattle.base.specs.declared.Cause.{Cause}
 use Rattle.base.specs.Causes.{firstOf}
 use Rattle.utf8.specs.Text.{textOf}
 use Rattle.utf8.specs.Answer.{manyBytes, illFormed, manyPoints}
-use Rattle.md.specs.declared.Limit.the-variants.{Threshold}
-use Rattle.md.specs.declared.Scored.{Scored}
-use Rattle.md.specs.MessRatio.{DEFAULT-THRESHOLD, ofScoring, ofScoringDefault}
-use Rattle.md.specs.Scan.{acceptedScore, unless}
+use Rattle.md_meaning.specs.declared.Limit.the-variants.{Threshold}
+use Rattle.md_meaning.specs.declared.Scored.{Scored}
+use Rattle.md_meaning.specs.MessRatio.{DEFAULT-THRESHOLD, ofScoring, ofScoringDefault}
+use Rattle.md_meaning.specs.Scan.{acceptedScore, unless}
 
 unfoldable pub causesUtf8 : List ℕ → Float → List ℕ → List ℕ → Cause
 causesUtf8 bytes threshold classes pairs =

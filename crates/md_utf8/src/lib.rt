@@ -5,8 +5,8 @@ use base::Cause;
 use base::Counted;
 use classes::HINTS;
 use md::DEFAULT_THRESHOLD;
-use md::Scored;
 use md::tables::check_lent;
+use md_meaning::Scored;
 use rooms::score_read;
 
 pub mod rooms;

@@ -5,7 +5,7 @@ ghost use lib.ListN.{length};
 ghost use Rattle.base.specs.Limits.{LONGEST-TEXT};
 ghost use Rattle.utf8.specs.Text.{textOf};
 ghost use Rattle.utf8.specs.Inner.Readable.{Readable};
-ghost use Rattle.md.specs.MessRatio.{messRatio};
+ghost use Rattle.md_meaning.specs.MessRatio.{messRatio};
 ghost use Rattle.md_utf8.specs.Inner.Lendable.{Lendable};
 ghost use Rattle.md_utf8.specs.Inner.Rooms as rooms;
 ghost use Rattle.md_utf8.specs.ScoreUtf8.{messRatioUtf8};
@@ -13,9 +13,9 @@ use base::Counted;
 use base::limits::LONGEST_TEXT;
 use class_builtin::Table;
 use classes::HINTS;
-use md::Limit;
-use md::Scored;
 use md::scan::scan_text_in;
+use md_meaning::Limit;
+use md_meaning::Scored;
 use utf8::taking::take_utf8;
 
 // Code points of a text that goes through the small room, which costs little to clear: most console lines.

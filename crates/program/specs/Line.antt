@@ -8,8 +8,8 @@ use lib.Ieee.{toBits, binary32}
 use lib.ListN.{length}
 use Rattle.base.specs.Numbers.{bump}
 use Rattle.base.specs.Put.{put}
-use Rattle.md.specs.declared.Scored.{Scored}
-use Rattle.md.specs.declared.Scored.the-variants.{Score, Refused}
+use Rattle.md_meaning.specs.declared.Scored.{Scored}
+use Rattle.md_meaning.specs.declared.Scored.the-variants.{Score, Refused}
 use Rattle.program.specs.Program.{answer}
 use Rattle.pieces.specs.Words.{codes}
 use Rattle.pieces.specs.Numerals.{decimal}

@@ -10,8 +10,8 @@ use Rattle.base.specs.declared.Cause.{Cause}
 use Rattle.base.specs.Causes.{given}
 use Rattle.base.specs.Limits.{PAIR-BYTES}
 use Rattle.base.specs.Refusals.{TOO-LONG}
-use Rattle.md.specs.declared.Scored.{Scored}
-use Rattle.md.specs.Scan.{unless}
+use Rattle.md_meaning.specs.declared.Scored.{Scored}
+use Rattle.md_meaning.specs.Scan.{unless}
 use Rattle.md_utf8.specs.ScoreUtf8.{messRatioUtf8}
 
 -- "up to 4,096 bytes"

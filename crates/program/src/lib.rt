@@ -6,8 +6,8 @@ use base::limits::PAIR_BYTES;
 use base::refusals::TOO_LONG;
 use line::put_refused;
 use line::put_score;
-use md::Scored;
 use md::unscored;
+use md_meaning::Scored;
 use md_utf8::mess_ratio_utf8;
 
 pub mod line;

@@ -5,14 +5,14 @@ ghost use Prim.Native.Nat.{_≤_, _<_};
 ghost use lib.Dec.{T};
 ghost use lib.Ieee.{toBits, isNan, binary32};
 ghost use lib.ListN.{length};
-ghost use Rattle.md.specs.declared.Scored.the-variants as scored;
+ghost use Rattle.md_meaning.specs.declared.Scored.the-variants as scored;
 ghost use Rattle.program.specs.Numerals as numerals;
 ghost use Rattle.program.specs.Inner.Line as lines;
 ghost use Rattle.program.specs.Line.{line};
 ghost use Rattle.pieces.specs.Inner.Pieces.{Goes};
 use base::Refusal;
 use base::one;
-use md::Score;
+use md_meaning::Score;
 use pieces::put_number;
 use pieces::put_piece;
 

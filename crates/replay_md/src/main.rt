@@ -2,15 +2,15 @@
 ghost use mathlib.Core.Path.{_≡_};
 ghost use Prim.Native.Nat.{_≤_};
 ghost use lib.ListN.{length};
-ghost use Rattle.md.specs.Inner.Plain.{PlainAnswer, PlainScore};
+ghost use Rattle.md_meaning.specs.Inner.Plain.{PlainAnswer, PlainScore};
 use base::limits::CLASS_RECORD;
 use base::limits::LONGEST_TEXT;
 use base::limits::MOST_CLASSES;
 use base::limits::PAIR_BYTES;
 use base::one;
-use md::Score;
-use md::Scored;
 use md::mess_ratio;
+use md_meaning::Score;
+use md_meaning::Scored;
 use ratio::DETECTORS;
 use ratio::rounding::bits;
 use ratio::telling::NUMBERS_SHOWN;

@@ -21,12 +21,12 @@ use Rattle.utf8.specs.Answer as read
 use Rattle.utf8_write.specs.Answer as written
 use Rattle.utf8_write.proofs.Laws.Answer.{writes}
 use Rattle.utf8_write.proofs.Laws.RoundTrips.{written-read}
-use Rattle.md.specs.declared.Score.{Score}
-use Rattle.md.specs.declared.Scored.{Scored}
-use Rattle.md.specs.declared.Scored.the-variants.{Refused, Score as Told}
-use Rattle.md.specs.MessRatio.{wholeScore}
-use Rattle.md.specs.Scan.{classAt, unclassed}
-use Rattle.md.proofs.Laws.Default.{whole-faultless}
+use Rattle.md_meaning.specs.declared.Score.{Score}
+use Rattle.md_meaning.specs.declared.Scored.{Scored}
+use Rattle.md_meaning.specs.declared.Scored.the-variants.{Refused, Score as Told}
+use Rattle.md_meaning.specs.MessRatio.{wholeScore}
+use Rattle.md_meaning.specs.Scan.{classAt, unclassed}
+use Rattle.md_meaning.proofs.Laws.Default.{whole-faultless}
 use Rattle.md_chooser.specs.declared.Judged.{Judged}
 use Rattle.md_chooser.specs.declared.Judged.the-variants.{First, Second, FirstRefused, SecondRefused}
 use Rattle.md_chooser.specs.Cut.{onlyNewlines, cut}

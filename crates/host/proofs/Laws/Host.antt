@@ -14,11 +14,11 @@ use Rattle.ratio.specs.declared.Ratios.{Ratios}
 use Rattle.ratio.specs.Rounded.{ZERO, bitsOf}
 use Rattle.ratio.specs.Eight.{noRatios, bits}
 use Rattle.ratio.specs.Shown.{noneShown, shownNumbers, numbersOf}
-use Rattle.md.specs.declared.Score.{Score}
-use Rattle.md.specs.declared.Scored.{Scored}
-use Rattle.md.specs.declared.Scored.the-variants.{Score as Told, Refused as Unscored}
-use Rattle.md.specs.Values.{values as scoreValues}
-use Rattle.md_lines.specs.Burst.{numbers, rowNumbers}
+use Rattle.md_meaning.specs.declared.Score.{Score}
+use Rattle.md_meaning.specs.declared.Scored.{Scored}
+use Rattle.md_meaning.specs.declared.Scored.the-variants.{Score as Told, Refused as Unscored}
+use Rattle.md_meaning.specs.Values.{values as scoreValues}
+use Rattle.md_lines_meaning.specs.Burst.{numbers, rowNumbers}
 use Rattle.md_chooser.specs.declared.Judged.{Judged}
 use Rattle.md_chooser.specs.declared.Judged.the-variants.{First, Second, FirstRefused, SecondRefused}
 use Rattle.md_chooser.specs.Choose.{values as verdictValues}

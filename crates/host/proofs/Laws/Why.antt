@@ -7,10 +7,10 @@ use Rattle.base.specs.Refusals.{ACCEPTED, UNCLASSED}
 use Rattle.classes.specs.declared.Class.{Class}
 use Rattle.classes.specs.declared.Found.{Found}
 use Rattle.classes.specs.declared.Found.the-variants.{At, Nothing}
-use Rattle.md_reason.specs.declared.Reasoned.{Reasoned}
-use Rattle.md_reason.specs.declared.Reasoned.the-variants.{Told, Refused as Untold}
-use Rattle.md_reason.specs.declared.Why.{Why}
-use Rattle.md_reason.specs.Reason.{values}
+use Rattle.md_reason_meaning.specs.declared.Reasoned.{Reasoned}
+use Rattle.md_reason_meaning.specs.declared.Reasoned.the-variants.{Told, Refused as Untold}
+use Rattle.md_reason_meaning.specs.declared.Why.{Why}
+use Rattle.md_reason_meaning.specs.Reason.{values}
 use Rattle.host.specs.declared.HostClass.{HostClass}
 use Rattle.host.specs.declared.HostReason.{HostReason}
 use Rattle.host.specs.Why.{hostReason, hostClass}

@@ -16,10 +16,10 @@ use Rattle.classes.specs.Pairs.{badPairs, bitOf, suspicious}
 use Rattle.classes.specs.Check.{badLength, badNumber, badRecord, badClasses}
 use Rattle.ratio.specs.Fraction.{fractionOf, atLeast}
 use Rattle.ratio.specs.Eight.{fractionsOf, ratios, sum}
-use Rattle.md.specs.Text.{checkpoint, period}
+use Rattle.md_meaning.specs.Text.{checkpoint, period}
 use Rattle.ratio.specs.Finite.{notFinite}
-use Rattle.md.specs.Scan.{acceptedScore, noClass, unless, stateAt, stops, fed, classAt, unclassed, sumOf, reaches, scored}
-use Rattle.md.specs.MessRatio.{tooLong, causes, messRatio}
+use Rattle.md_meaning.specs.Scan.{acceptedScore, noClass, unless, stateAt, stops, fed, classAt, unclassed, sumOf, reaches, scored}
+use Rattle.md_meaning.specs.MessRatio.{tooLong, causes, messRatio}
 use Rattle.program.specs.Program.{NO-PAIRS}
 use Rattle.marked_cases.specs.Alone.{countsAfter, ratioOf}
 use Rattle.marked_cases.specs.Cases.{cases, right, tells, withClasses, onePair, all}

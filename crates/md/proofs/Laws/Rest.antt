@@ -19,9 +19,9 @@ use Rattle.classes.specs.declared.Class.{Class}
 use Rattle.classes.specs.declared.Found.the-variants.{At, Nothing}
 use Rattle.classes.specs.Lookup.{builtinClass, recordClass, classOf}
 use Rattle.classes.proofs.Laws.Lookup.{class-builtin, class-lent, lent-held, lent-none, newline-class}
-use Rattle.md.specs.Text.{charAt}
-use Rattle.md.specs.Scan.{classAt, unclassed}
-use Rattle.md.proofs.Laws.Scan.{is-unclassed, is-classed}
+use Rattle.md_meaning.specs.Text.{charAt}
+use Rattle.md_meaning.specs.Scan.{classAt, unclassed}
+use Rattle.md_meaning.proofs.Laws.Scan.{is-unclassed, is-classed}
 
 -- where none of the indexes from i to k is what is looked for, it is looked for from k on
 module _ (f : ℕ → Bool) (n : ℕ) where

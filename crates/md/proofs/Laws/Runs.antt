@@ -30,14 +30,14 @@ use Rattle.md_eight.proofs.Laws.Runs.{cased-one, cased-more, cased-last, uncase
 use Rattle.md_eight.proofs.Laws.Runs.{space-any}
 use Rattle.md.specs.declared.runs.Alike.{Alike}
 use Rattle.md.specs.declared.runs.Fed.{Fed}
-use Rattle.md.specs.Text.{charAt, total, checkpoint, period, SHORT-LENGTH, MIDDLE-LENGTH, SHORT-PERIOD, MIDDLE-PERIOD, LONG-PERIOD}
-use Rattle.md.specs.Scan.{fed, classIn, classAt, unclassed, stateAt}
+use Rattle.md_meaning.specs.Text.{charAt, total, checkpoint, period, SHORT-LENGTH, MIDDLE-LENGTH, SHORT-PERIOD, MIDDLE-PERIOD, LONG-PERIOD}
+use Rattle.md_meaning.specs.Scan.{fed, classIn, classAt, unclassed, stateAt}
 use Rattle.md.specs.Inner.Rest.{Past}
 use Rattle.md.specs.Inner.Runs.{Nearer, Piece, Run, Low, High, HeldAt, Lent, AlikeOf, LowerRun, Spaced, Before, Advanced}
 use Rattle.md.proofs.Laws.Ascii.{lower-class, lower-stop, space-class}
 use Rattle.class_records.proofs.Laws.Records.{held-past}
 use Rattle.md.proofs.Laws.Rest.{held-class, holder-hold, holder-holds}
-use Rattle.md.proofs.Laws.Scan.{getD-any, is-classed, state-within, state-range, class-range}
+use Rattle.md_meaning.proofs.Laws.Scan.{getD-any, is-classed, state-within, state-range, class-range}
 
 pub untrue : {A : Type 0} → false ≡ true → A
 untrue e = let z : _≡_ {A = ℕ} 0 1 = cc in absurd (omega arith)

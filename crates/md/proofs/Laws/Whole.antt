@@ -13,8 +13,8 @@ use Rattle.base.specs.Tests.{scalar, within}
 use Rattle.base.proofs.Laws.Tests.{by-bool, split, and-l, and-r, or-l, within-yes}
 use Rattle.class_records.specs.Records.{records, recordAt, goodTable, goodAt}
 use Rattle.class_records.proofs.Laws.Records.{good-span, good-follows, follows-next, each-good, table-none-bad}
-use Rattle.md.specs.Text.{charAt}
-use Rattle.md.specs.Scan.{unclassed}
+use Rattle.md_meaning.specs.Text.{charAt}
+use Rattle.md_meaning.specs.Scan.{unclassed}
 use Rattle.md.specs.Inner.Whole.{PAST-BUILTIN, sizesBefore}
 use Rattle.md.proofs.Laws.Rest.{builtin-classed, held-classed}
 

@@ -22,12 +22,12 @@ use Rattle.md_eight.specs.declared.Detectors.{Detectors}
 use Rattle.md_eight.specs.Detectors.{start}
 use Rattle.md_eight.specs.Inner.Detectors.{Countable, FedCount}
 use Rattle.md_eight.proofs.Loops.Detectors.{within-countable}
-use Rattle.md.specs.declared.Limit.{Limit}
-use Rattle.md.specs.declared.Scored.{Scored}
-use Rattle.md.specs.Text.{total, checkpoint}
-use Rattle.md.specs.Scan.{classAt, unclassed, stateAt, stops, sumOf, reaches, scored, acceptedScore, noClass}
-use Rattle.md.specs.Inner.Scan.{refused, scan}
-use Rattle.md.proofs.Laws.Scan.{is-unclassed, state-start, state-within, state-fed-count, unless-allowed, unless-at}
+use Rattle.md_meaning.specs.declared.Limit.{Limit}
+use Rattle.md_meaning.specs.declared.Scored.{Scored}
+use Rattle.md_meaning.specs.Text.{total, checkpoint}
+use Rattle.md_meaning.specs.Scan.{classAt, unclassed, stateAt, stops, sumOf, reaches, scored, acceptedScore, noClass}
+use Rattle.md_meaning.specs.Inner.Scan.{refused, scan}
+use Rattle.md_meaning.proofs.Laws.Scan.{is-unclassed, state-start, state-within, state-fed-count, unless-allowed, unless-at}
 use Rattle.md.specs.declared.runs.Fed.{Fed}
 use Rattle.md.specs.Inner.Going.{stoppedAfter}
 use Rattle.md.specs.Inner.Runs.{Before, Advanced}

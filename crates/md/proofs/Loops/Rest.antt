@@ -13,10 +13,10 @@ use Rattle.base.specs.Inner.First.{firstFrom}
 use Rattle.base.proofs.Laws.First.{first-hit, first-miss, first-end}
 use Rattle.base.proofs.Laws.Tests.{by-bool, split, and-l, and-r}
 use Rattle.class_records.specs.Records.{records, recordAt, goodTable, holder}
-use Rattle.md.specs.Text.{charAt, total}
-use Rattle.md.specs.Scan.{unclassed}
+use Rattle.md_meaning.specs.Text.{charAt, total}
+use Rattle.md_meaning.specs.Scan.{unclassed}
 use Rattle.md.specs.Inner.Rest.{Past, Builtin, Stepped, Walked}
-use Rattle.md.proofs.Laws.Scan.{getD-any}
+use Rattle.md_meaning.proofs.Laws.Scan.{getD-any}
 use Rattle.md.proofs.Laws.Rest.{first-passed, builtin-classed, holder-classed, held-classed, none-unclassed, newline-classed}
 
 -- ---- characters from low to high

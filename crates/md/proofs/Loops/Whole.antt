@@ -14,11 +14,11 @@ use Rattle.base.specs.Inner.First.{firstFrom}
 use Rattle.base.specs.Tests.{scalar, within}
 use Rattle.base.proofs.Laws.Tests.{by-bool, split, and-l, and-r, and-yes, or-l, within-below, within-above}
 use Rattle.class_records.specs.Records.{records, recordAt, goodTable}
-use Rattle.md.specs.Text.{charAt, total}
-use Rattle.md.specs.Scan.{unclassed}
+use Rattle.md_meaning.specs.Text.{charAt, total}
+use Rattle.md_meaning.specs.Scan.{unclassed}
 use Rattle.md.specs.Inner.Rest.{Builtin}
 use Rattle.md.specs.Inner.Whole.{PAST-BUILTIN, sizesBefore, Valued, Classed, Passed}
-use Rattle.md.proofs.Laws.Scan.{getD-any}
+use Rattle.md_meaning.proofs.Laws.Scan.{getD-any}
 use Rattle.md.proofs.Laws.Rest.{first-passed, builtin-classed}
 use Rattle.md.proofs.Laws.Whole.{pastRecords, sizes-fit, past-fit, whole-classed}
 use Rattle.md.proofs.Loops.Rest.{rest-ended}

@@ -1,7 +1,7 @@
 -- Each return is one of 01's causes, in its order, or the scan behind them. Assumes nothing.
 use mathlib.Core.Path.{sym, _∙_}
-use Rattle.md.proofs.Laws.Lent.{free-lent}
-use Rattle.md.proofs.Laws.MessRatio.{ratio-long, ratio-lent, ratio-scan}
+use Rattle.md_meaning.proofs.Laws.Lent.{free-lent}
+use Rattle.md_meaning.proofs.Laws.MessRatio.{ratio-long, ratio-lent, ratio-scan}
 use borrow.Author.Needs.{needs}
 use Rattle.md.proofs.mess_ratio.Statement.{statement}
 use Rattle.md.proofs.mess_ratio.Tie as tie

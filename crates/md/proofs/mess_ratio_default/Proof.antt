@@ -1,6 +1,6 @@
 -- Scoring at the default threshold is scoring without one. Assumes nothing.
 use mathlib.Core.Path.{_∙_}
-use Rattle.md.proofs.Laws.MessRatio.{default-same}
+use Rattle.md_meaning.proofs.Laws.MessRatio.{default-same}
 use borrow.Author.Needs.{needs}
 use Rattle.md.proofs.mess_ratio_default.Statement.{statement}
 use Rattle.md.proofs.mess_ratio_default.Tie as tie

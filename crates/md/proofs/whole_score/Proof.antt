@@ -1,7 +1,7 @@
 -- The same causes as the default call's, and a scan that never stops. Assumes nothing.
 use mathlib.Core.Path.{sym, _∙_}
-use Rattle.md.proofs.Laws.Lent.{free-checked}
-use Rattle.md.proofs.Laws.MessRatio.{whole-long, whole-lent, whole-scan}
+use Rattle.md_meaning.proofs.Laws.Lent.{free-checked}
+use Rattle.md_meaning.proofs.Laws.MessRatio.{whole-long, whole-lent, whole-scan}
 use borrow.Author.Needs.{needs}
 use Rattle.md.proofs.whole_score.Statement.{statement}
 use Rattle.md.proofs.whole_score.Tie as tie

@@ -8,9 +8,9 @@ use Rattle.base.specs.Causes.{given}
 use Rattle.base.specs.Inner.First.{firstFrom}
 use Rattle.base.specs.Refusals.{UNCLASSED}
 use Rattle.md_eight.specs.declared.Detectors.{Detectors}
-use Rattle.md.specs.declared.Scored.{Scored}
-use Rattle.md.specs.Text.{total}
-use Rattle.md.specs.Scan.{unclassed, scored, unless}
+use Rattle.md_meaning.specs.declared.Scored.{Scored}
+use Rattle.md_meaning.specs.Text.{total}
+use Rattle.md_meaning.specs.Scan.{unclassed, scored, unless}
 
 -- the answer of a scan that stops after the character at i, its state being s
 unfoldable pub stoppedAfter : List ℕ → List ℕ → Detectors → ℕ → Scored

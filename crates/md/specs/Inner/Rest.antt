@@ -6,8 +6,8 @@ use mathlib.Core.Path.{_≡_}
 use mathlib.Core.Bool.{Bool, true, false}
 use mathlib.Core.List.{List}
 use Rattle.base.specs.Limits.{BUILTIN-END}
-use Rattle.md.specs.Text.{charAt}
-use Rattle.md.specs.Scan.{unclassed}
+use Rattle.md_meaning.specs.Text.{charAt}
+use Rattle.md_meaning.specs.Scan.{unclassed}
 
 -- all characters up to r lie from low to high, and r is not past `end`
 pub record Past (text : List ℕ) (low high from end r : ℕ) : Type 0 where

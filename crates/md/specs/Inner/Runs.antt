@@ -18,8 +18,8 @@ use Rattle.md_eight.specs.Inner.Runs.{casedRun, lowerClass, LOWER-FIRST, LOWER-
 use Rattle.md.specs.declared.runs.Alike.{Alike}
 use Rattle.md.specs.declared.runs.Fed.{Fed}
 use Rattle.md.specs.declared.scan.Looked.{Looked}
-use Rattle.md.specs.Text.{charAt, total, checkpoint}
-use Rattle.md.specs.Scan.{classAt, stateAt, unclassed}
+use Rattle.md_meaning.specs.Text.{charAt, total, checkpoint}
+use Rattle.md_meaning.specs.Scan.{classAt, stateAt, unclassed}
 
 -- r is the smaller of a and b
 pub record Nearer (a b r : ℕ) : Type 0 where

@@ -9,8 +9,8 @@ use lib.ListN.{length}
 use Rattle.base.specs.Limits.{BUILTIN-END, LAST-POINT, SURROGATE-FIRST, SURROGATE-LAST}
 use Rattle.base.specs.Tests.{scalar}
 use Rattle.class_records.specs.Records.{recordAt}
-use Rattle.md.specs.Text.{charAt, total}
-use Rattle.md.specs.Scan.{unclassed}
+use Rattle.md_meaning.specs.Text.{charAt, total}
+use Rattle.md_meaning.specs.Scan.{unclassed}
 
 -- how many scalar values lie past the built-in table
 abbrev pub PAST-BUILTIN : ℕ

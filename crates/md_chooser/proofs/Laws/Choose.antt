@@ -11,11 +11,11 @@ use lib.Seq.{length-take-le}
 use Rattle.base.specs.declared.Refusal.{Refusal}
 use Rattle.base.specs.Limits.{LONGEST-TEXT}
 use Rattle.base.proofs.Laws.Tests.{cond-both}
-use Rattle.md.specs.declared.Score.{Score}
-use Rattle.md.specs.declared.Scored.{Scored}
-use Rattle.md.specs.declared.Scored.the-variants.{Refused, Score as Told}
-use Rattle.md.specs.MessRatio.{wholeScore}
-use Rattle.md.proofs.Laws.Default.{whole-faultless}
+use Rattle.md_meaning.specs.declared.Score.{Score}
+use Rattle.md_meaning.specs.declared.Scored.{Scored}
+use Rattle.md_meaning.specs.declared.Scored.the-variants.{Refused, Score as Told}
+use Rattle.md_meaning.specs.MessRatio.{wholeScore}
+use Rattle.md_meaning.proofs.Laws.Default.{whole-faultless}
 use Rattle.md_chooser.specs.declared.Judged.{Judged}
 use Rattle.md_chooser.specs.declared.Judged.the-variants.{First, Second, FirstRefused, SecondRefused}
 use Rattle.md_chooser.specs.Cut.{cut}

@@ -27,16 +27,16 @@ use Rattle.classes.specs.Check.{badClasses}
 use Rattle.classes.specs.Pairs.{badPairs}
 use Rattle.class_records.specs.Records.{goodTable}
 use Rattle.ratio.specs.Finite.{isFinite, notFinite}
-use Rattle.md.specs.declared.Limit.the-variants.{Threshold}
-use Rattle.md.specs.declared.Scored.{Scored}
-use Rattle.md.specs.declared.Scored.the-variants.{Refused as NotScored}
-use Rattle.md.specs.MessRatio.{DEFAULT-THRESHOLD, tooLong, causes, messRatio}
-use Rattle.md.specs.Scan.{acceptedScore, noClass, unless}
-use Rattle.md.proofs.Laws.MessRatio.{default-finite}
-use Rattle.md.proofs.Laws.Scan.{unless-refused}
+use Rattle.md_meaning.specs.declared.Limit.the-variants.{Threshold}
+use Rattle.md_meaning.specs.declared.Scored.{Scored}
+use Rattle.md_meaning.specs.declared.Scored.the-variants.{Refused as NotScored}
+use Rattle.md_meaning.specs.MessRatio.{DEFAULT-THRESHOLD, tooLong, causes, messRatio}
+use Rattle.md_meaning.specs.Scan.{acceptedScore, noClass, unless}
+use Rattle.md_meaning.proofs.Laws.MessRatio.{default-finite}
+use Rattle.md_meaning.proofs.Laws.Scan.{unless-refused}
 use Rattle.md_utf8.specs.ScoreUtf8.{causesUtf8, messRatioUtf8}
-use Rattle.md_lines.specs.Lines.{linesOf}
-use Rattle.md_lines.specs.Burst as bursts
+use Rattle.md_lines_meaning.specs.Lines.{linesOf}
+use Rattle.md_lines_meaning.specs.Burst as bursts
 use Rattle.class_compact.specs.Form.{Bytes}
 use Rattle.class_compact.specs.Unpacked.{unpacked}
 use Rattle.class_compact.specs.Check.{badCompact}

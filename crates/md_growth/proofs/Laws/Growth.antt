@@ -16,8 +16,8 @@ use Rattle.classes.specs.Pairs.{suspicious}
 use Rattle.md_eight.specs.declared.Detectors.{Detectors}
 use Rattle.md_eight.specs.Detectors.{feed, counts, lastRange}
 use Rattle.md_eight.proofs.Loops.Detectors.{Within, feed-within, within-room, within-countable}
-use Rattle.md.specs.Text.{charAt}
-use Rattle.md.specs.Scan.{fed, classIn, classAt, stateAt}
+use Rattle.md_meaning.specs.Text.{charAt}
+use Rattle.md_meaning.specs.Scan.{fed, classIn, classAt, stateAt}
 use Rattle.md_growth.specs.declared.Growths.{Growths}
 use Rattle.md_growth.specs.declared.Watched.{Watched}
 use Rattle.md_growth.specs.Growth.{noGrowths, grownAfter, start, watch}

@@ -13,11 +13,11 @@ use Rattle.base.specs.Numbers.{bump}
 use Rattle.base.specs.Refusals.{ACCEPTED}
 use Rattle.ratio.specs.Rounded.{ZERO, bitsOf}
 use Rattle.md_growth.specs.Growth.{noGrowths}
-use Rattle.md_running.specs.declared.Running.{Running}
-use Rattle.md_running.specs.declared.Opened.{Opened}
-use Rattle.md_running.specs.declared.Opened.the-variants.{Running as Open, Refused as NotOpen}
-use Rattle.md_running.specs.declared.Fed.{Fed}
-use Rattle.md_running.specs.Opening.{noLine, values}
+use Rattle.md_running_meaning.specs.declared.Running.{Running}
+use Rattle.md_running_meaning.specs.declared.Opened.{Opened}
+use Rattle.md_running_meaning.specs.declared.Opened.the-variants.{Running as Open, Refused as NotOpen}
+use Rattle.md_running_meaning.specs.declared.Fed.{Fed}
+use Rattle.md_running_meaning.specs.Opening.{noLine, values}
 use Rattle.md_lent.specs.declared.HostRunning.{HostRunning}
 use Rattle.md_lent.specs.declared.HostOpened.{HostOpened}
 use Rattle.md_lent.specs.declared.LentFed.{LentFed}

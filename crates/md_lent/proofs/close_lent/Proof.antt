@@ -1,7 +1,7 @@
 -- Closing of the state that the numbers are. Assumes nothing.
 use mathlib.Core.Path.{ap, _∙_}
 use borrow.Author.Needs.{needs}
-use Rattle.md_running.specs.Closing.{closeLine}
+use Rattle.md_running_meaning.specs.Closing.{closeLine}
 use Rattle.md_lent.proofs.close_lent.Statement.{statement}
 use Rattle.md_lent.proofs.close_lent.Tie as tie
 

@@ -1,7 +1,7 @@
 -- Zeros where opening refuses; else the state, whose threshold is finite and so no NaN. Assumes nothing.
 use mathlib.Core.Path.{sym, _∙_}
 use borrow.Author.Needs.{needs}
-use Rattle.md_running.proofs.Laws.Opening.{opened-finite}
+use Rattle.md_running_meaning.proofs.Laws.Opening.{opened-finite}
 use Rattle.md_lent.proofs.Laws.Bits.{finite-number}
 use Rattle.md_lent.proofs.Laws.Lent.{opened-none, opened-line}
 use Rattle.md_lent.proofs.open_lent.Statement.{statement}

@@ -13,9 +13,9 @@ use borrow.Author.Tests.{eq-eqb, ne-eqb}
 use Rattle.base.specs.Limits.{NEWLINE}
 use Rattle.base.specs.Numbers.{bump}
 use Rattle.base.proofs.Laws.Tests.{by-bool}
-use Rattle.md_lines.specs.Lines.{withByte, linesOf}
-use Rattle.md_lines.specs.Inner.Lines.{endsOf}
-use Rattle.md_lines.proofs.Loops.Lines.{ended-lines, more-lines, lines-none, lines-cons}
+use Rattle.md_lines_meaning.specs.Lines.{withByte, linesOf}
+use Rattle.md_lines_meaning.specs.Inner.Lines.{endsOf}
+use Rattle.md_lines_meaning.proofs.Laws.Lines.{ended-lines, more-lines, lines-none, lines-cons}
 
 ends-none : endsOf [] ≡ 0
 unfolding endsOf

@@ -9,11 +9,11 @@ use lib.ListN.{length, take, drop, length-append, take-append-drop}
 use lib.Seq.{take-paste, drop-drop, take-length, length-take-le}
 use Rattle.base.specs.Put.{put}
 use Rattle.base.proofs.Laws.Put.{put-length, put-beyond, put-first, put-all}
-use Rattle.md_lines.specs.Lines.{linesOf}
-use Rattle.md_lines.specs.Inner.Lines.{LineEnd}
-use Rattle.md_lines.proofs.Loops.Lines.{first-line, no-lines, lines-few}
-use Rattle.md_lines.specs.Burst.{NUMBERS-PER-LINE, LONGEST-BURST, rows, rowOf}
-use Rattle.md_lines.proofs.Laws.Burst.{row-length, rows-none, rows-more, rows-length}
+use Rattle.md_lines_meaning.specs.Lines.{linesOf}
+use Rattle.md_lines_meaning.specs.Inner.Lines.{LineEnd}
+use Rattle.md_lines_meaning.proofs.Laws.Lines.{first-line, no-lines, lines-few}
+use Rattle.md_lines_meaning.specs.Burst.{NUMBERS-PER-LINE, LONGEST-BURST, rows, rowOf}
+use Rattle.md_lines_meaning.proofs.Laws.Burst.{row-length, rows-none, rows-more, rows-length}
 
 module _ (threshold : Float) (classes pairs : List ℕ) where
   -- the rows of the lines from `from` on

@@ -1,8 +1,8 @@
 -- Each return is one of the causes, in their order, or the rows behind them. Assumes nothing.
 use mathlib.Core.Path.{sym, _∙_}
 use native.Mathlib.Omega.{arith}
-use Rattle.md_lines.proofs.Loops.Lines.{lines-below}
-use Rattle.md_lines.proofs.Laws.Burst.{over, faulty, no-room, scored}
+use Rattle.md_lines_meaning.proofs.Laws.Lines.{lines-below}
+use Rattle.md_lines_meaning.proofs.Laws.Burst.{over, faulty, no-room, scored}
 use borrow.Author.Needs.{needs}
 use Rattle.md_lines.proofs.score_lines.Statement.{statement}
 use Rattle.md_lines.proofs.score_lines.Tie as tie

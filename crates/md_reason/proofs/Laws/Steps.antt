@@ -16,9 +16,9 @@ use Rattle.classes.specs.declared.Class.{Class}
 use Rattle.classes.specs.declared.Found.{Found}
 use Rattle.classes.specs.declared.Found.the-variants.{At, Nothing}
 use Rattle.md_eight.specs.Detectors.{lastRange}
-use Rattle.md.specs.Text.{charAt, total}
-use Rattle.md.specs.Scan.{classIn, classAt}
-use Rattle.md.proofs.Laws.Scan.{class-range, state-within, state-range}
+use Rattle.md_meaning.specs.Text.{charAt, total}
+use Rattle.md_meaning.specs.Scan.{classIn, classAt}
+use Rattle.md_meaning.proofs.Laws.Scan.{class-range, state-within, state-range}
 use Rattle.md_growth.specs.Text.{growthOf, lastOf, watchedNext, grows, watchedAt}
 use Rattle.md_growth.specs.Inner.Growth.{Watchable}
 use Rattle.md_growth.proofs.Laws.Growth.{within-watchable, watched-eight, last-growth}

@@ -16,7 +16,7 @@ use Rattle.md_growth.specs.declared.Watched.{Watched}
 use Rattle.md_growth.specs.Growth.{start}
 use Rattle.md_growth.specs.Text.{grows, watchedAt}
 use Rattle.md_growth.proofs.Laws.Growth.{watched-start}
-use Rattle.md_reason.proofs.Laws.Indexes.{passing-hit, passing-miss, passing-count, passing-fewer}
+use Rattle.md_reason_meaning.proofs.Laws.Indexes.{passing-hit, passing-miss, passing-count, passing-fewer}
 
 module _ (classes pairs text : List ℕ) (d n : ℕ) where
   pub record Counting (w : Watched) (count i : ℕ) : Type 0 where

@@ -1,7 +1,7 @@
 -- The list is counted, then its room is tested, and only then is it written. Assumes nothing.
 use mathlib.Core.Path.{_∙_}
 use native.Mathlib.Omega.{arith}
-use Rattle.md_reason.proofs.Laws.Reason.{listed-short, short-into, listed-told, told-into}
+use Rattle.md_reason_meaning.proofs.Laws.Reason.{listed-short, short-into, listed-told, told-into}
 use borrow.Author.Needs.{needs}
 use Rattle.md_reason.proofs.list_growths.Statement.{statement}
 use Rattle.md_reason.proofs.list_growths.Tie as tie

@@ -1,6 +1,6 @@
 -- Scoring refuses first; then the list of its detector, among the characters that it fed, is told. Assumes nothing.
 use mathlib.Core.Path.{sym, _∙_}
-use Rattle.md_reason.proofs.Laws.Reason.{reason-refused, refused-into, scored-answer, scored-into, scored-ripe}
+use Rattle.md_reason_meaning.proofs.Laws.Reason.{reason-refused, refused-into, scored-answer, scored-into, scored-ripe}
 use borrow.Author.Needs.{needs}
 use Rattle.md_reason.proofs.reason.Statement.{statement}
 use Rattle.md_reason.proofs.reason.Tie as tie

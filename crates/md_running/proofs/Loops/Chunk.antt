@@ -17,17 +17,17 @@ use Rattle.classes.specs.declared.Found.{Found}
 use Rattle.classes.specs.declared.Found.the-variants.{At, Nothing}
 use Rattle.classes.specs.Lookup.{classOf}
 use Rattle.classes.proofs.Laws.Lookup.{class-lawful}
-use Rattle.md.specs.Scan.{classAt, unclassed}
-use Rattle.md.proofs.Laws.Scan.{getD-any, is-unclassed, is-classed}
-use Rattle.md_running.specs.declared.Running.{Running}
-use Rattle.md_running.specs.State.{unsound}
-use Rattle.md_running.specs.Feeding.{step, fedUnless}
-use Rattle.md_running.specs.Chunk.{stepsAt, haltsAt, halt, refusedWithin}
-use Rattle.md_running.specs.Inner.Chunk.{Chunk}
-use Rattle.md_running.specs.Inner.Step.{Taking}
-use Rattle.md_running.proofs.Laws.State.{sound-of}
-use Rattle.md_running.proofs.Laws.Feeding.{fed-refused, fed-allowed}
-use Rattle.md_running.proofs.Laws.Chunk.{steps-start, steps-more, steps-length, steps-received, halts-unsound, halts-unclassed, halts-not, within-unsound, within-unclassed, within-none}
+use Rattle.md_meaning.specs.Scan.{classAt, unclassed}
+use Rattle.md_meaning.proofs.Laws.Scan.{getD-any, is-unclassed, is-classed}
+use Rattle.md_running_meaning.specs.declared.Running.{Running}
+use Rattle.md_running_meaning.specs.State.{unsound}
+use Rattle.md_running_meaning.specs.Feeding.{step, fedUnless}
+use Rattle.md_running_meaning.specs.Chunk.{stepsAt, haltsAt, halt, refusedWithin}
+use Rattle.md_running_meaning.specs.Inner.Chunk.{Chunk}
+use Rattle.md_running_meaning.specs.Inner.Step.{Taking}
+use Rattle.md_running_meaning.proofs.Laws.State.{sound-of}
+use Rattle.md_running_meaning.proofs.Laws.Feeding.{fed-refused, fed-allowed}
+use Rattle.md_running_meaning.proofs.Laws.Chunk.{steps-start, steps-more, steps-length, steps-received, halts-unsound, halts-unclassed, halts-not, within-unsound, within-unclassed, within-none}
 
 module _ (s : Running) (text classes pairs : List ℕ) where
   pub record Chunking (t : Running) (i : ℕ) : Type 0 where

@@ -1,8 +1,8 @@
 -- 19, or what closing says of a sound state. Assumes nothing.
 use mathlib.Core.Path.{sym, _∙_}
 use borrow.Author.Needs.{needs}
-use Rattle.md_running.proofs.Laws.Closing.{close-refused, close-on}
-use Rattle.md_running.proofs.Laws.State.{free-sound}
+use Rattle.md_running_meaning.proofs.Laws.Closing.{close-refused, close-on}
+use Rattle.md_running_meaning.proofs.Laws.State.{free-sound}
 use Rattle.md_running.proofs.close_line.Statement.{statement}
 use Rattle.md_running.proofs.close_line.Tie as tie
 

@@ -1,7 +1,7 @@
 -- One of the causes before the characters, or the characters themselves. Assumes nothing.
 use mathlib.Core.Path.{sym, _∙_}
 use borrow.Author.Needs.{needs}
-use Rattle.md_running.proofs.Laws.Chunk.{chunk-refused, chunk-on, chunk-room}
+use Rattle.md_running_meaning.proofs.Laws.Chunk.{chunk-refused, chunk-on, chunk-room}
 use Rattle.md_running.proofs.feed_chunk.Statement.{statement}
 use Rattle.md_running.proofs.feed_chunk.Tie as tie
 

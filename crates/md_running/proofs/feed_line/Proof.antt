@@ -1,7 +1,7 @@
 -- One of the causes before the character, or the character itself. Assumes nothing.
 use mathlib.Core.Path.{sym, _∙_}
 use borrow.Author.Needs.{needs}
-use Rattle.md_running.proofs.Laws.Feeding.{free-call, one-room, feed-refused, feed-on}
+use Rattle.md_running_meaning.proofs.Laws.Feeding.{free-call, one-room, feed-refused, feed-on}
 use Rattle.md_running.proofs.feed_line.Statement.{statement}
 use Rattle.md_running.proofs.feed_line.Tie as tie
 

@@ -1,7 +1,7 @@
 -- Each return is one of opening's causes, in its order, or the fresh line behind them. Assumes nothing.
 use mathlib.Core.Path.{sym, _∙_}
 use borrow.Author.Needs.{needs}
-use Rattle.md_running.proofs.Laws.Opening.{open-long, open-lent, open-fresh}
+use Rattle.md_running_meaning.proofs.Laws.Opening.{open-long, open-lent, open-fresh}
 use Rattle.md_running.proofs.open_line.Statement.{statement}
 use Rattle.md_running.proofs.open_line.Tie as tie
 

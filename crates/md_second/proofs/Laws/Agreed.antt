@@ -17,15 +17,15 @@ use Rattle.base.proofs.Laws.Causes.{given-yes, free-given}
 use Rattle.classes.specs.Check.{badClasses}
 use Rattle.classes.specs.Pairs.{badPairs}
 use Rattle.ratio.specs.Finite.{isFinite}
-use Rattle.md.specs.declared.Limit.the-variants.{Threshold}
-use Rattle.md.specs.declared.Scored.{Scored}
-use Rattle.md.specs.declared.Scored.the-variants.{Refused as NotScored}
-use Rattle.md.specs.MessRatio.{messRatio}
-use Rattle.md.specs.Inner.Lent.{badLent}
-use Rattle.md.specs.Inner.Scan.{refused, scan}
-use Rattle.md.proofs.Laws.Lent.{lent-unbounded, lent-on, tables-bad, tables-on}
-use Rattle.md.proofs.Laws.MessRatio.{ratio-lent, ratio-scan}
-use Rattle.md.proofs.Laws.Scan.{unless-allowed, unless-at}
+use Rattle.md_meaning.specs.declared.Limit.the-variants.{Threshold}
+use Rattle.md_meaning.specs.declared.Scored.{Scored}
+use Rattle.md_meaning.specs.declared.Scored.the-variants.{Refused as NotScored}
+use Rattle.md_meaning.specs.MessRatio.{messRatio}
+use Rattle.md_meaning.specs.Inner.Lent.{badLent}
+use Rattle.md_meaning.specs.Inner.Scan.{refused, scan}
+use Rattle.md_meaning.proofs.Laws.Lent.{lent-unbounded, lent-on, tables-bad, tables-on}
+use Rattle.md_meaning.proofs.Laws.MessRatio.{ratio-lent, ratio-scan}
+use Rattle.md_meaning.proofs.Laws.Scan.{unless-allowed, unless-at}
 use Rattle.md_second.specs.Second.{SECOND-LONGEST, tooLong, secondScore}
 
 module _ (text : List ℕ) (threshold : Float) (classes pairs : List ℕ) where

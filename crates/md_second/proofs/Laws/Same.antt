@@ -33,12 +33,12 @@ use Rattle.md_words.specs.SuperWeirdWord as weird-words
 use Rattle.md_words.specs.ArchaicUpperLower as archaic
 use Rattle.md_eight.specs.declared.Detectors.{Detectors}
 use Rattle.md_eight.specs.Detectors.{start, feed, lastRange}
-use Rattle.md.specs.declared.Limit.the-variants.{Threshold}
-use Rattle.md.specs.declared.Scored.{Scored}
-use Rattle.md.specs.Text.{charAt, total, checkpoint}
-use Rattle.md.specs.Scan.{fed, classIn, classAt, stateAt, stops, sumOf, reaches, scored, acceptedScore, noClass, firstUnclassed, unclassed}
-use Rattle.md.specs.Inner.Scan.{refused, scan}
-use Rattle.md.proofs.Laws.Scan.{class-range, unless-allowed, unless-at}
+use Rattle.md_meaning.specs.declared.Limit.the-variants.{Threshold}
+use Rattle.md_meaning.specs.declared.Scored.{Scored}
+use Rattle.md_meaning.specs.Text.{charAt, total, checkpoint}
+use Rattle.md_meaning.specs.Scan.{fed, classIn, classAt, stateAt, stops, sumOf, reaches, scored, acceptedScore, noClass, firstUnclassed, unclassed}
+use Rattle.md_meaning.specs.Inner.Scan.{refused, scan}
+use Rattle.md_meaning.proofs.Laws.Scan.{class-range, unless-allowed, unless-at}
 use Rattle.md_second.specs.Second.{SECOND-LONGEST}
 use Rattle.md_second.specs.Inner.After.{seen, flagged, symbolsAfter, accentsAfter, unprintableAfter, rangesAfter, doubledAfter, wordsAfter, stopsAfter, archaicAfter, eightAfter}
 use Rattle.md_second.specs.Inner.Lists.{ROOM, classHere, pointAt, flagsAt, rangeAt, baseAt, Fits, Known, Laid}

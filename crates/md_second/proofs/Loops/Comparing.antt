@@ -10,8 +10,8 @@ use borrow.Author.Tests.{lt-ltb, le-ltb}
 use Rattle.base.specs.First.{first}
 use Rattle.base.specs.Inner.First.{firstFrom}
 use Rattle.base.proofs.Laws.First.{first-start, first-hit, first-miss, first-end}
-use Rattle.md.specs.declared.Scored.{Scored}
-use Rattle.md.specs.Scan.{scored}
+use Rattle.md_meaning.specs.declared.Scored.{Scored}
+use Rattle.md_meaning.specs.Scan.{scored}
 use Rattle.md_second.specs.Inner.After.{eightAfter}
 use Rattle.md_second.specs.Inner.Listed.{stopsThere, listScore}
 

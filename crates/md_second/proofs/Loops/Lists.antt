@@ -12,8 +12,8 @@ use Rattle.classes.specs.declared.Class.{Class}
 use Rattle.classes.specs.declared.Found.{Found}
 use Rattle.classes.specs.declared.Found.the-variants.{At, Nothing}
 use Rattle.classes.specs.Lookup.{classOf}
-use Rattle.md.specs.Text.{charAt}
-use Rattle.md.specs.Scan.{classAt}
+use Rattle.md_meaning.specs.Text.{charAt}
+use Rattle.md_meaning.specs.Scan.{classAt}
 use Rattle.md_second.specs.Inner.Lists.{ROOM, classHere, Laid}
 
 module _ (classes text : List ℕ) (i point : ℕ) (found : Found) (p : point ≡ charAt text i) (q : found ≡ classOf classes point) where

@@ -13,10 +13,10 @@ use Rattle.base.specs.Limits.{PAIR-BYTES}
 use Rattle.ratio.specs.declared.EightCounts.{EightCounts}
 use Rattle.ratio.specs.Eight.{fractionsOf, ratios, sum}
 use Rattle.ratio.specs.Shown.{eightShown}
-use Rattle.md.specs.declared.Scored.{Scored}
-use Rattle.md.specs.declared.Scored.the-variants.{Score}
-use Rattle.md.specs.Text.{period, checkpoint}
-use Rattle.md.specs.Scan.{scored, sumOf}
+use Rattle.md_meaning.specs.declared.Scored.{Scored}
+use Rattle.md_meaning.specs.declared.Scored.the-variants.{Score}
+use Rattle.md_meaning.specs.Text.{period, checkpoint}
+use Rattle.md_meaning.specs.Scan.{scored, sumOf}
 use Rattle.md_second.specs.Inner.After.{eightAfter}
 use Rattle.md_second.specs.Inner.Lists.{Fits, Known}
 

@@ -7,8 +7,8 @@ use mathlib.Core.List.{List}
 use lib.ListN.{length, getD}
 use Rattle.base.specs.Limits.{LAST-RANGE}
 use Rattle.classes.specs.declared.Class.{Class}
-use Rattle.md.specs.Text.{charAt}
-use Rattle.md.specs.Scan.{classIn, classAt}
+use Rattle.md_meaning.specs.Text.{charAt}
+use Rattle.md_meaning.specs.Scan.{classIn, classAt}
 
 -- the class of the character at i; one that has none is nothing but itself
 abbrev pub classHere : List ℕ → List ℕ → ℕ → Class

@@ -6,12 +6,12 @@ use mathlib.Core.Path.{_≡_, sym, _∙_}
 use mathlib.Core.List.{List}
 use lib.Ieee.{Float}
 use lib.ListN.{length}
-use Rattle.md.specs.declared.Score.{Score}
-use Rattle.md.specs.declared.Scored.the-variants.{Score as Told}
-use Rattle.md.proofs.Laws.Accepted.{Faultless}
-use Rattle.md_running.specs.Closing.{closeLine}
-use Rattle.md_running.specs.Line.{lineAt}
-use Rattle.md_running.proofs.Laws.Line.{closing-whole}
+use Rattle.md_meaning.specs.declared.Score.{Score}
+use Rattle.md_meaning.specs.declared.Scored.the-variants.{Score as Told}
+use Rattle.md_meaning.proofs.Laws.Accepted.{Faultless}
+use Rattle.md_running_meaning.specs.Closing.{closeLine}
+use Rattle.md_running_meaning.specs.Line.{lineAt}
+use Rattle.md_running_meaning.proofs.Laws.Line.{closing-whole}
 use Rattle.md_thresholds.specs.Thresholds.{Higher, Compared}
 use Rattle.md_thresholds.proofs.Laws.Thresholds.{higher-compared}
 

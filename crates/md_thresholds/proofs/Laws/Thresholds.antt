@@ -40,17 +40,17 @@ use Rattle.md_eight.specs.Bounds.{CountsAtMost}
 use Rattle.md_eight.specs.declared.Detectors.{Detectors}
 use Rattle.md_eight.proofs.Loops.Detectors.{Within, fractions-proper, within-countable, counts-at-most}
 use Rattle.md_counts.specs.CjkInvalidStop as stop
-use Rattle.md.specs.declared.Limit.the-variants.{Threshold}
-use Rattle.md.specs.declared.Score.{Score}
-use Rattle.md.specs.declared.Scored.{Scored}
-use Rattle.md.specs.declared.Scored.the-variants.{Score as Told}
-use Rattle.md.specs.Text.{total, checkpoint}
-use Rattle.md.specs.Scan.{stateAt, stops, reaches, sumOf, scored, stopOf, acceptedScore}
-use Rattle.md.specs.MessRatio.{causes, ofScoring, messRatio}
+use Rattle.md_meaning.specs.declared.Limit.the-variants.{Threshold}
+use Rattle.md_meaning.specs.declared.Score.{Score}
+use Rattle.md_meaning.specs.declared.Scored.{Scored}
+use Rattle.md_meaning.specs.declared.Scored.the-variants.{Score as Told}
+use Rattle.md_meaning.specs.Text.{total, checkpoint}
+use Rattle.md_meaning.specs.Scan.{stateAt, stops, reaches, sumOf, scored, stopOf, acceptedScore}
+use Rattle.md_meaning.specs.MessRatio.{causes, ofScoring, messRatio}
 use Rattle.md_thresholds.specs.Thresholds.{HIGHEST, HIGHEST-F32, Higher, Compared}
 use Rattle.md_thresholds.proofs.Laws.UpTo.{UpTo, whole, up-to-whole, whole-up-to, rounded-up-to, up-to-plus}
-use Rattle.md.proofs.Laws.Scan.{state-within}
-use Rattle.md.proofs.Laws.Accepted.{scored-faultless}
+use Rattle.md_meaning.proofs.Laws.Scan.{state-within}
+use Rattle.md_meaning.proofs.Laws.Accepted.{scored-faultless}
 
 -- ---- the order of f32 is transitive up to a number without a minus sign, whatever the signs of the two below it
 -- a negative one is at most every other

@@ -16,17 +16,17 @@ use Rattle.utf8.specs.Answer.{manyBytes, illFormed, manyPoints}
 use Rattle.utf8.specs.Inner.Answer.{inBytes, unreadable}
 use Rattle.utf8.specs.Inner.Readable.{Readable}
 use Rattle.utf8.proofs.Laws.Answer.{free-readable, readable-free}
-use Rattle.md.specs.declared.Limit.the-variants.{Threshold}
-use Rattle.md.specs.declared.Score.{Score}
-use Rattle.md.specs.declared.Scored.the-variants.{Score as Told}
-use Rattle.md.specs.MessRatio.{DEFAULT-THRESHOLD, ofScoring, causes, messRatio}
-use Rattle.md.specs.Scan.{acceptedScore}
-use Rattle.md.specs.DemandThree.{Certain}
-use Rattle.md.proofs.Laws.Scan.{unless-allowed, unless-score}
-use Rattle.md.proofs.Laws.Accepted.{Faultless, faultless-free, free-faultless}
-use Rattle.md.proofs.Laws.Default.{default-threshold}
-use Rattle.md.proofs.Laws.DemandThree.{demand-three}
-use Rattle.md.proofs.Laws.Plain.{Bounded, ratio-at-most}
+use Rattle.md_meaning.specs.declared.Limit.the-variants.{Threshold}
+use Rattle.md_meaning.specs.declared.Score.{Score}
+use Rattle.md_meaning.specs.declared.Scored.the-variants.{Score as Told}
+use Rattle.md_meaning.specs.MessRatio.{DEFAULT-THRESHOLD, ofScoring, causes, messRatio}
+use Rattle.md_meaning.specs.Scan.{acceptedScore}
+use Rattle.md_meaning.specs.DemandThree.{Certain}
+use Rattle.md_meaning.proofs.Laws.Scan.{unless-allowed, unless-score}
+use Rattle.md_meaning.proofs.Laws.Accepted.{Faultless, faultless-free, free-faultless}
+use Rattle.md_meaning.proofs.Laws.Default.{default-threshold}
+use Rattle.md_meaning.proofs.Laws.DemandThree.{demand-three}
+use Rattle.md_meaning.proofs.Laws.Plain.{Bounded, ratio-at-most}
 use Rattle.md_utf8.specs.ScoreUtf8.{causesUtf8, messRatioUtf8, messRatioUtf8Default}
 use Rattle.md_utf8.proofs.Laws.ScoreUtf8.{default-same-utf8}
 

@@ -8,13 +8,13 @@ use lib.ListN.{length}
 use Rattle.base.specs.declared.Cause.the-variants.{Allowed}
 use Rattle.base.specs.Limits.{LONGEST-TEXT}
 use Rattle.class_builtin.specs.Inner.Words.{packedWords}
-use Rattle.md.specs.declared.Limit.the-variants.{Threshold}
+use Rattle.md_meaning.specs.declared.Limit.the-variants.{Threshold}
 use Rattle.md.specs.Inner.Ready.{Ready}
-use Rattle.md.specs.Inner.Lent.{badLent}
-use Rattle.md.specs.MessRatio.{messRatio}
-use Rattle.md.specs.Inner.Scan.{scan}
-use Rattle.md.proofs.Laws.Lent.{free-lent, lent-free}
-use Rattle.md.proofs.Laws.MessRatio.{ratio-scan}
+use Rattle.md_meaning.specs.Inner.Lent.{badLent}
+use Rattle.md_meaning.specs.MessRatio.{messRatio}
+use Rattle.md_meaning.specs.Inner.Scan.{scan}
+use Rattle.md_meaning.proofs.Laws.Lent.{free-lent, lent-free}
+use Rattle.md_meaning.proofs.Laws.MessRatio.{ratio-scan}
 use Rattle.md_utf8.specs.Inner.Lendable.{Lendable}
 
 module _ (threshold : Float) (table classes pairs : List ℕ) where

@@ -19,16 +19,16 @@ use Rattle.utf8.specs.Text.{textOf}
 use Rattle.utf8.specs.Answer.{manyBytes, illFormed, manyPoints}
 use Rattle.utf8.specs.Inner.Answer.{inBytes, unreadable, countUtf8}
 use Rattle.utf8.proofs.Laws.Answer.{counted-free}
-use Rattle.md.specs.declared.Limit.the-variants.{Threshold}
-use Rattle.md.specs.declared.Scored.{Scored}
-use Rattle.md.specs.declared.Scored.the-variants.{Refused}
+use Rattle.md_meaning.specs.declared.Limit.the-variants.{Threshold}
+use Rattle.md_meaning.specs.declared.Scored.{Scored}
+use Rattle.md_meaning.specs.declared.Scored.the-variants.{Refused}
 use Rattle.ratio.specs.Finite.{notFinite}
-use Rattle.md.specs.MessRatio.{DEFAULT-THRESHOLD, ofScoring, causes, messRatio}
-use Rattle.md.specs.Inner.Plain.{PlainAnswer}
-use Rattle.md.proofs.Laws.Plain.{ratio-plain}
-use Rattle.md.specs.Scan.{acceptedScore, unless}
-use Rattle.md.proofs.Laws.Scan.{unless-allowed, unless-refused, unless-score}
-use Rattle.md.proofs.Laws.MessRatio.{default-finite}
+use Rattle.md_meaning.specs.MessRatio.{DEFAULT-THRESHOLD, ofScoring, causes, messRatio}
+use Rattle.md_meaning.specs.Inner.Plain.{PlainAnswer}
+use Rattle.md_meaning.proofs.Laws.Plain.{ratio-plain}
+use Rattle.md_meaning.specs.Scan.{acceptedScore, unless}
+use Rattle.md_meaning.proofs.Laws.Scan.{unless-allowed, unless-refused, unless-score}
+use Rattle.md_meaning.proofs.Laws.MessRatio.{default-finite}
 use Rattle.md_utf8.specs.ScoreUtf8.{causesUtf8, causesUtf8Default, messRatioUtf8, messRatioUtf8Default}
 
 module _ (bytes : List ℕ) (threshold : Float) (classes pairs : List ℕ) where

@@ -2,7 +2,7 @@
 use native.Mathlib.Omega.{arith}
 use mathlib.Core.Path.{sym, _∙_}
 use Rattle.utf8.proofs.Laws.Answer.{readable}
-use Rattle.md.proofs.Laws.MessRatio.{ratio-lent}
+use Rattle.md_meaning.proofs.Laws.MessRatio.{ratio-lent}
 use Rattle.md_utf8.proofs.Laws.Lendable.{lendable}
 use Rattle.md_utf8.proofs.Laws.ScoreUtf8.{unread, read}
 use borrow.Author.Needs.{needs}

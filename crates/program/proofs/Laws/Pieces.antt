@@ -10,9 +10,9 @@ use lib.ListN.{length}
 use Rattle.base.specs.declared.Refusal.{Refusal}
 use Rattle.base.specs.Numbers.{bump}
 use Rattle.base.proofs.Laws.Put.{put-length}
-use Rattle.md.specs.declared.Score.{Score}
-use Rattle.md.specs.declared.Scored.{Scored}
-use Rattle.md.specs.declared.Scored.the-variants.{Refused, Score as Told}
+use Rattle.md_meaning.specs.declared.Score.{Score}
+use Rattle.md_meaning.specs.declared.Scored.{Scored}
+use Rattle.md_meaning.specs.declared.Scored.the-variants.{Refused, Score as Told}
 use Rattle.program.specs.Program.{answer}
 use Rattle.program.specs.Line.{line, Reported}
 use Rattle.program.specs.Numerals.{hex}

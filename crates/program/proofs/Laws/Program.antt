@@ -7,11 +7,11 @@ use lib.ListN.{length}
 use borrow.Author.Tests.{lt-ltb, le-ltb}
 use Rattle.base.specs.Refusals.{TOO-LONG}
 use Rattle.base.proofs.Laws.Causes.{given-yes, free-given}
-use Rattle.md.specs.declared.Score.{Score}
-use Rattle.md.specs.declared.Scored.the-variants.{Score as Told}
-use Rattle.md.specs.Inner.Scan.{refused}
-use Rattle.md.proofs.Laws.Scan.{unless-allowed, unless-at, unless-score}
-use Rattle.md.specs.Inner.Plain.{PlainScore}
+use Rattle.md_meaning.specs.declared.Score.{Score}
+use Rattle.md_meaning.specs.declared.Scored.the-variants.{Score as Told}
+use Rattle.md_meaning.specs.Inner.Scan.{refused}
+use Rattle.md_meaning.proofs.Laws.Scan.{unless-allowed, unless-at, unless-score}
+use Rattle.md_meaning.specs.Inner.Plain.{PlainScore}
 use Rattle.md_utf8.specs.ScoreUtf8.{messRatioUtf8}
 use Rattle.md_utf8.proofs.Laws.ScoreUtf8.{utf8-plain}
 use Rattle.program.specs.Program.{LONGEST-INPUT, THRESHOLD, NO-CLASSES, NO-PAIRS, manyBytes, answer}

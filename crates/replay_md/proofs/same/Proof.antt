@@ -1,7 +1,7 @@
 -- The parts lent are as long as was cut, and mess_ratio's ratios and sum are no NaN. Assumes nothing.
 use native.Mathlib.Omega.{arith}
 use lib.ListN.{length-take}
-use Rattle.md.proofs.Laws.Plain.{ratio-plain}
+use Rattle.md_meaning.proofs.Laws.Plain.{ratio-plain}
 use borrow.Author.Needs.{needs}
 use Rattle.replay_md.proofs.same.Statement.{statement}
 use Rattle.replay_md.proofs.same.Tie as tie

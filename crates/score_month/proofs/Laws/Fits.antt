@@ -8,8 +8,8 @@ use lib.Ieee.{Float}
 use lib.ListN.{length, take}
 use lib.Seq.{length-take-le}
 use Rattle.base.specs.declared.Counted.the-variants.{Count}
-use Rattle.md_lines.specs.Burst.{answer}
-use Rattle.md_lines.proofs.Laws.EachLine.{lines-faultless}
+use Rattle.md_lines_meaning.specs.Burst.{answer}
+use Rattle.md_lines_meaning.proofs.Laws.EachLine.{lines-faultless}
 
 module _ (bytes : List ℕ) (threshold : Float) (classes pairs : List ℕ) (room n : ℕ) (e : answer bytes threshold classes pairs room ≡ Count n) where
   pub rows-fit : (most : ℕ) → most ≡ room → n * 37 ≤ most

@@ -9,10 +9,10 @@ use Rattle.base.specs.Refusals.{ACCEPTED}
 use Rattle.ratio.specs.declared.EightShown.{EightShown}
 use Rattle.ratio.specs.Eight.{bits}
 use Rattle.ratio.specs.Shown.{numbersOf, shownNumbers}
-use Rattle.md.specs.declared.Score.{Score}
-use Rattle.md.specs.declared.Scored.the-variants.{Score as Told, Refused as Unscored}
-use Rattle.md.specs.Values.{values}
-use Rattle.md_lines.specs.Burst.{NUMBERS-PER-LINE, numbers, rowNumbers}
+use Rattle.md_meaning.specs.declared.Score.{Score}
+use Rattle.md_meaning.specs.declared.Scored.the-variants.{Score as Told, Refused as Unscored}
+use Rattle.md_meaning.specs.Values.{values}
+use Rattle.md_lines_meaning.specs.Burst.{NUMBERS-PER-LINE, numbers, rowNumbers}
 use Rattle.md_report.specs.Rows.{WORDS, numberAt, ratioAt, numeratorAt, denominatorAt}
 
 pub row-words : WORDS ≡ NUMBERS-PER-LINE

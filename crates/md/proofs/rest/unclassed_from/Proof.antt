@@ -4,8 +4,8 @@ use mathlib.Core.Path.{_≡_, refl}
 use native.Mathlib.Omega.{arith}
 use lib.ListN.{length}
 use Rattle.base.specs.Inner.First.{firstFrom}
-use Rattle.md.specs.Text.{total}
-use Rattle.md.specs.Scan.{unclassed}
+use Rattle.md_meaning.specs.Text.{total}
+use Rattle.md_meaning.specs.Scan.{unclassed}
 use Rattle.md.proofs.Loops.Rest.{rest-found, rest-more, rest-ended}
 use borrow.Author.Needs.{needs}
 use Rattle.md.proofs.rest.unclassed_from.Statement.{statement}

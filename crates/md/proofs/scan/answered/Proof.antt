@@ -1,5 +1,5 @@
 -- The ratios, their sum and what is shown are made of the counts once. Assumes nothing.
-use Rattle.md.specs.Inner.Scan.{answered}
+use Rattle.md_meaning.specs.Inner.Scan.{answered}
 use borrow.Author.Needs.{needs}
 use Rattle.md.proofs.scan.answered.Statement.{statement}
 use Rattle.md.proofs.scan.answered.Tie as tie

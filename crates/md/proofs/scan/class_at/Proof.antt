@@ -1,7 +1,7 @@
 -- The lookup of the character at i, by its contracts: below the built-in table's end no record is looked for. Assumes nothing.
 use native.Mathlib.Omega.{arith}
 use Rattle.classes.proofs.Laws.Lookup.{class-builtin, class-lent}
-use Rattle.md.specs.Scan.{classAt}
+use Rattle.md_meaning.specs.Scan.{classAt}
 use borrow.Author.Needs.{needs}
 use Rattle.md.proofs.scan.class_at.Statement.{statement}
 use Rattle.md.proofs.scan.class_at.Tie as tie

@@ -1,5 +1,5 @@
 -- One feed, with the pair table's bit, is the definition's step. Assumes nothing.
-use Rattle.md.specs.Scan.{fed}
+use Rattle.md_meaning.specs.Scan.{fed}
 use borrow.Author.Needs.{needs}
 use Rattle.md.proofs.scan.fed.Statement.{statement}
 use Rattle.md.proofs.scan.fed.Tie as tie

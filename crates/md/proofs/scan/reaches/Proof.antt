@@ -1,7 +1,7 @@
 -- The two kinds of limit, case by case. Assumes nothing.
-use Rattle.md.proofs.Laws.Scan.{reaches-threshold, reaches-never}
+use Rattle.md_meaning.proofs.Laws.Scan.{reaches-threshold, reaches-never}
 use mathlib.Core.Path.{refl, sym, ap, _∙_}
-use Rattle.md.specs.Scan.{reaches}
+use Rattle.md_meaning.specs.Scan.{reaches}
 use borrow.Author.Needs.{needs}
 use Rattle.md.proofs.scan.reaches.Statement.{statement}
 use Rattle.md.proofs.scan.reaches.Tie as tie

@@ -5,7 +5,7 @@ use mathlib.Core.Path.{sym, _∙_}
 use native.Mathlib.Omega.{arith}
 use Rattle.md.proofs.Loops.Going.{Going, going-start, going-before, going-countable, going-missing, fed-countable, fed-counted, going-on, going-stopped, going-ended}
 use Rattle.md.proofs.Laws.Runs.{before-looked}
-use Rattle.md.proofs.Laws.Scan.{answered-state}
+use Rattle.md_meaning.proofs.Laws.Scan.{answered-state}
 use borrow.Author.Needs.{needs}
 use Rattle.md.proofs.scan.scan_text_in.Statement.{statement}
 use Rattle.md.proofs.scan.scan_text_in.Tie as tie

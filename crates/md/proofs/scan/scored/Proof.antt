@@ -1,6 +1,6 @@
 -- The counts are those of the state that the definition names. Assumes nothing.
 use mathlib.Core.Path.{_∙_}
-use Rattle.md.proofs.Laws.Scan.{answered-state}
+use Rattle.md_meaning.proofs.Laws.Scan.{answered-state}
 use borrow.Author.Needs.{needs}
 use Rattle.md.proofs.scan.scored.Statement.{statement}
 use Rattle.md.proofs.scan.scored.Tie as tie

@@ -1,7 +1,7 @@
 -- Past the stop only the first unclassed character matters. Assumes nothing.
 use mathlib.Core.Path.{_∙_}
 use Rattle.md.proofs.Loops.Going.{stopped-missing, stopped-scored}
-use Rattle.md.proofs.Laws.Scan.{answered-state}
+use Rattle.md_meaning.proofs.Laws.Scan.{answered-state}
 use borrow.Author.Needs.{needs}
 use Rattle.md.proofs.scan.stopped_after.Statement.{statement}
 use Rattle.md.proofs.scan.stopped_after.Tie as tie

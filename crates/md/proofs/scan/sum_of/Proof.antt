@@ -1,5 +1,5 @@
 -- The sum of the state's ratios. Assumes nothing.
-use Rattle.md.specs.Scan.{sumOf}
+use Rattle.md_meaning.specs.Scan.{sumOf}
 use mathlib.Core.Path.{ap, _∙_}
 use Rattle.ratio.specs.Eight.{sum}
 use borrow.Author.Needs.{needs}

@@ -1,7 +1,7 @@
 -- A threshold that is not finite, or else the tables' cause. Assumes nothing.
 use mathlib.Core.Path.{sym, _∙_}
 use borrow.Author.Tests.{not-true, not-false}
-use Rattle.md.proofs.Laws.Lent.{lent-unbounded, lent-on}
+use Rattle.md_meaning.proofs.Laws.Lent.{lent-unbounded, lent-on}
 use borrow.Author.Needs.{needs}
 use Rattle.md.proofs.tables.check_lent.Statement.{statement}
 use Rattle.md.proofs.tables.check_lent.Tie as tie

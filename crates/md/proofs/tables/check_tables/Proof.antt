@@ -1,6 +1,6 @@
 -- The class table's cause, or else the pair table's. Assumes nothing.
 use mathlib.Core.Path.{sym, _∙_}
-use Rattle.md.proofs.Laws.Lent.{tables-bad, tables-on}
+use Rattle.md_meaning.proofs.Laws.Lent.{tables-bad, tables-on}
 use borrow.Author.Needs.{needs}
 use Rattle.md.proofs.tables.check_tables.Statement.{statement}
 use Rattle.md.proofs.tables.check_tables.Tie as tie

@@ -1,6 +1,6 @@
 -- One law for each case of the answer. Assumes nothing.
 use mathlib.Core.Path.{sym, ap, _∙_}
-use Rattle.md_lines.specs.Burst.{rowNumbers}
+use Rattle.md_lines_meaning.specs.Burst.{rowNumbers}
 use borrow.Author.Needs.{needs}
 use Rattle.md_lines.proofs.row.row_of.Statement.{statement}
 use Rattle.md_lines.proofs.row.row_of.Tie as tie

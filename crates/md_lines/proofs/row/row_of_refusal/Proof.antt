@@ -1,5 +1,5 @@
 -- Zeros, with the number and the place put in. Assumes nothing.
-use Rattle.md_lines.proofs.Laws.Burst.{row-refused}
+use Rattle.md_lines_meaning.proofs.Laws.Burst.{row-refused}
 use borrow.Author.Needs.{needs}
 use Rattle.md_lines.proofs.row.row_of_refusal.Statement.{statement}
 use Rattle.md_lines.proofs.row.row_of_refusal.Tie as tie

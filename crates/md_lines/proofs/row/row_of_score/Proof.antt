@@ -1,5 +1,5 @@
 -- Zeros, with the ratios' bits put behind the number and the place, and the rest behind them, the counts last. Assumes nothing.
-use Rattle.md_lines.proofs.Laws.Burst.{row-told, row-room}
+use Rattle.md_lines_meaning.proofs.Laws.Burst.{row-told, row-room}
 use borrow.Author.Needs.{needs}
 use Rattle.md_lines.proofs.row.row_of_score.Statement.{statement}
 use Rattle.md_lines.proofs.row.row_of_score.Tie as tie

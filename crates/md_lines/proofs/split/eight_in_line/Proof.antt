@@ -1,7 +1,7 @@
 -- The tests joined are those of `noEndOn` at the byte and the seven after it. Assumes nothing.
 use mathlib.Core.Path.{refl}
 use borrow.Author.Needs.{needs}
-use Rattle.md_lines.specs.Inner.Lines.{noEndOn}
+use Rattle.md_lines_meaning.specs.Inner.Lines.{noEndOn}
 use Rattle.md_lines.proofs.split.eight_in_line.Statement.{statement}
 use Rattle.md_lines.proofs.split.eight_in_line.Tie as tie
 

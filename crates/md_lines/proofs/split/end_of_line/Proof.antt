@@ -1,9 +1,9 @@
 -- The bytes passed hold no 0A. Assumes nothing.
 use Prim.Native.Nat.{_-_}
 use lib.ListN.{length}
-use Rattle.md_lines.proofs.Loops.Lines.{passing-more, passing-hit, passing-end}
+use Rattle.md_lines_meaning.proofs.Laws.Lines.{passing-more, passing-hit, passing-end}
 use borrow.Author.Needs.{needs}
-use Rattle.md_lines.specs.Inner.Lines.{Passing}
+use Rattle.md_lines_meaning.specs.Inner.Lines.{Passing}
 use Rattle.md_lines.proofs.split.end_of_line.Statement.{statement}
 use Rattle.md_lines.proofs.split.end_of_line.Tie as tie
 

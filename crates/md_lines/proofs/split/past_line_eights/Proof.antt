@@ -5,8 +5,8 @@ use native.Mathlib.Omega.{arith}
 use lib.ListN.{length}
 use borrow.Author.Tests.{not-false}
 use borrow.Author.Needs.{needs}
-use Rattle.md_lines.specs.Inner.Lines.{Passing}
-use Rattle.md_lines.proofs.Loops.Lines.{passing-start, passing-on}
+use Rattle.md_lines_meaning.specs.Inner.Lines.{Passing}
+use Rattle.md_lines_meaning.proofs.Laws.Lines.{passing-start, passing-on}
 use Rattle.md_lines.proofs.split.past_line_eights.Statement.{statement}
 use Rattle.md_lines.proofs.split.past_line_eights.Tie as tie
 

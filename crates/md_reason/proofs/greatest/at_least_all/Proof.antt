@@ -1,7 +1,7 @@
 -- The eight comparisons, in the order of the definition. Assumes nothing.
 use mathlib.Core.Path.{refl}
 use Rattle.base.specs.First.{each}
-use Rattle.md_reason.specs.Greatest.{atLeastAll}
+use Rattle.md_reason_meaning.specs.Greatest.{atLeastAll}
 use Rattle.md_reason.proofs.greatest.at_least_all.Statement.{statement}
 use Rattle.md_reason.proofs.greatest.at_least_all.Tie as tie
 

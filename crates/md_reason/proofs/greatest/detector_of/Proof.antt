@@ -1,8 +1,8 @@
 -- The first of the greatest, by its number. Assumes nothing.
 use mathlib.Core.Path.{sym, _∙_}
 use native.Mathlib.Omega.{arith}
-use Rattle.md_reason.specs.Greatest.{detectorOf}
-use Rattle.md_reason.proofs.Laws.Greatest.{first-few}
+use Rattle.md_reason_meaning.specs.Greatest.{detectorOf}
+use Rattle.md_reason_meaning.proofs.Laws.Greatest.{first-few}
 use borrow.Author.Needs.{needs}
 use Rattle.md_reason.proofs.greatest.detector_of.Statement.{statement}
 use Rattle.md_reason.proofs.greatest.detector_of.Tie as tie

@@ -5,8 +5,8 @@ use native.Mathlib.Omega.{arith}
 use Rattle.base.specs.Inner.First.{firstFrom}
 use Rattle.base.proofs.Laws.First.{first-start, first-hit, first-miss, first-end}
 use Rattle.ratio.specs.Eight.{DETECTORS}
-use Rattle.md_reason.specs.Greatest.{ratioAt, atLeastAll, firstGreatest}
-use Rattle.md_reason.proofs.Laws.Greatest.{ratio-read}
+use Rattle.md_reason_meaning.specs.Greatest.{ratioAt, atLeastAll, firstGreatest}
+use Rattle.md_reason_meaning.proofs.Laws.Greatest.{ratio-read}
 use Rattle.md_reason.proofs.greatest.first_greatest.Statement.{statement}
 use Rattle.md_reason.proofs.greatest.first_greatest.Tie as tie
 

@@ -1,6 +1,6 @@
 -- Each answer of the lookup is the class that the definition feeds. Assumes nothing.
 use mathlib.Core.Path.{sym, _∙_}
-use Rattle.md.specs.Scan.{classAt}
+use Rattle.md_meaning.specs.Scan.{classAt}
 use borrow.Author.Needs.{needs}
 use Rattle.md_reason.proofs.growing.fed_class.Statement.{statement}
 use Rattle.md_reason.proofs.growing.fed_class.Tie as tie

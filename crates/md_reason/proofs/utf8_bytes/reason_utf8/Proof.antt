@@ -1,7 +1,7 @@
 -- Reading refuses first; bytes that were counted are readable. Assumes nothing.
 use mathlib.Core.Path.{sym, _∙_}
 use Rattle.utf8.proofs.Laws.Answer.{readable}
-use Rattle.md_reason.proofs.Laws.ReasonUtf8.{unread, unread-into, read, read-into}
+use Rattle.md_reason_meaning.proofs.Laws.ReasonUtf8.{unread, unread-into, read, read-into}
 use borrow.Author.Needs.{needs}
 use Rattle.md_reason.proofs.utf8_bytes.reason_utf8.Statement.{statement}
 use Rattle.md_reason.proofs.utf8_bytes.reason_utf8.Tie as tie

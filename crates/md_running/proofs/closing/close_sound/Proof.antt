@@ -1,8 +1,8 @@
 -- Each return is one of the definition's cases, in its order. Assumes nothing.
 use mathlib.Core.Path.{_∙_}
 use borrow.Author.Needs.{needs}
-use Rattle.md_running.proofs.Laws.Bounds.{sound-countable}
-use Rattle.md_running.proofs.Laws.Closing.{close-short, close-stopped, close-over, ended-countable}
+use Rattle.md_running_meaning.proofs.Laws.Bounds.{sound-countable}
+use Rattle.md_running_meaning.proofs.Laws.Closing.{close-short, close-stopped, close-over, ended-countable}
 use Rattle.md_running.proofs.closing.close_sound.Statement.{statement}
 use Rattle.md_running.proofs.closing.close_sound.Tie as tie
 

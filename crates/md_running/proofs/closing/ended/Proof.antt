@@ -1,8 +1,8 @@
 -- The eight are fed the newline's class. Assumes nothing.
 use mathlib.Core.Path.{_∙_}
 use borrow.Author.Needs.{needs}
-use Rattle.md_running.specs.Closing.{ended}
-use Rattle.md_running.proofs.Laws.Bounds.{sound-room}
+use Rattle.md_running_meaning.specs.Closing.{ended}
+use Rattle.md_running_meaning.proofs.Laws.Bounds.{sound-room}
 use Rattle.md_running.proofs.closing.ended.Statement.{statement}
 use Rattle.md_running.proofs.closing.ended.Tie as tie
 

@@ -1,6 +1,6 @@
 -- The class that the built-in table gives. Assumes nothing.
 use borrow.Author.Needs.{needs}
-use Rattle.md_running.proofs.Laws.Closing.{newline-is}
+use Rattle.md_running_meaning.proofs.Laws.Closing.{newline-is}
 use Rattle.md_running.proofs.closing.newline.Statement.{statement}
 use Rattle.md_running.proofs.closing.newline.Tie as tie
 

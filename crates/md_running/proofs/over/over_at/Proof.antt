@@ -1,6 +1,6 @@
 -- Away from a checkpoint the definition's test is false, and at one it is the comparison. Assumes nothing.
 use mathlib.Core.Path.{sym, _∙_}
-use Rattle.md.specs.Scan.{reaches, sumOf}
+use Rattle.md_meaning.specs.Scan.{reaches, sumOf}
 use borrow.Author.Needs.{needs}
 use Rattle.md_running.proofs.over.over_at.Statement.{statement}
 use Rattle.md_running.proofs.over.over_at.Tie as tie

@@ -1,7 +1,7 @@
 -- A refusal exactly where the test holds. Assumes nothing.
 use mathlib.Core.Path.{sym, _∙_}
 use borrow.Author.Needs.{needs}
-use Rattle.md_running.proofs.Laws.State.{unsound-bad, sound-good}
+use Rattle.md_running_meaning.proofs.Laws.State.{unsound-bad, sound-good}
 use Rattle.md_running.proofs.state.bad_state.Statement.{statement}
 use Rattle.md_running.proofs.state.bad_state.Tie as tie
 

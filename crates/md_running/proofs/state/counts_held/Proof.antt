@@ -1,6 +1,6 @@
 -- The definition's list. Assumes nothing.
 use mathlib.Core.Path.{refl}
-use Rattle.md_running.specs.State.{countsIn}
+use Rattle.md_running_meaning.specs.State.{countsIn}
 use Rattle.md_running.proofs.state.counts_held.Statement.{statement}
 use Rattle.md_running.proofs.state.counts_held.Tie as tie
 

@@ -2,7 +2,7 @@
 use mathlib.Core.Path.{sym, _∙_}
 use borrow.Author.Needs.{needs}
 use borrow.Author.Tests.{not-true, not-false}
-use Rattle.md_running.proofs.Laws.State.{not-finite, over-long, over-full, over-range, by-counts}
+use Rattle.md_running_meaning.proofs.Laws.State.{not-finite, over-long, over-full, over-range, by-counts}
 use Rattle.md_running.proofs.state.is_unsound.Statement.{statement}
 use Rattle.md_running.proofs.state.is_unsound.Tie as tie
 

@@ -1,7 +1,7 @@
 -- One more received, and nothing else. Assumes nothing.
 use mathlib.Core.Path.{refl}
 use borrow.Author.Needs.{needs}
-use Rattle.md_running.specs.Feeding.{arrived}
+use Rattle.md_running_meaning.specs.Feeding.{arrived}
 use Rattle.md_running.proofs.step.arrived.Statement.{statement}
 use Rattle.md_running.proofs.step.arrived.Tie as tie
 

@@ -2,8 +2,8 @@
 use mathlib.Core.Path.{sym, _∙_}
 use borrow.Author.Needs.{needs}
 use native.Mathlib.Omega.{arith}
-use Rattle.md_running.proofs.Laws.Feeding.{call-bad, call-full, call-on}
-use Rattle.md_running.proofs.Laws.State.{free-sound}
+use Rattle.md_running_meaning.proofs.Laws.Feeding.{call-bad, call-full, call-on}
+use Rattle.md_running_meaning.proofs.Laws.State.{free-sound}
 use Rattle.md_running.proofs.step.check_feed.Statement.{statement}
 use Rattle.md_running.proofs.step.check_feed.Tie as tie
 

@@ -2,8 +2,8 @@
 use borrow.Author.Needs.{needs}
 use Rattle.md_growth.specs.Growth.{watch}
 use Rattle.md_growth.specs.Text.{watchedNext}
-use Rattle.md_running.specs.Feeding.{stopsAt, fedOn}
-use Rattle.md_running.proofs.Laws.Bounds.{sound-watchable, fed-countable}
+use Rattle.md_running_meaning.specs.Feeding.{stopsAt, fedOn}
+use Rattle.md_running_meaning.proofs.Laws.Bounds.{sound-watchable, fed-countable}
 use Rattle.md_running.proofs.step.fed_on.Statement.{statement}
 use Rattle.md_running.proofs.step.fed_on.Tie as tie
 

@@ -2,7 +2,7 @@
 use mathlib.Core.Path.{sym, _∙_}
 use borrow.Author.Needs.{needs}
 use Rattle.classes.proofs.Laws.Lookup.{class-lawful}
-use Rattle.md_running.proofs.Laws.Feeding.{fed-refused, none-here, found-here}
+use Rattle.md_running_meaning.proofs.Laws.Feeding.{fed-refused, none-here, found-here}
 use Rattle.md_running.proofs.step.feed_checked.Statement.{statement}
 use Rattle.md_running.proofs.step.feed_checked.Tie as tie
 

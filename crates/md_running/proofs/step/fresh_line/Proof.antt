@@ -1,6 +1,6 @@
 -- The definition's record, the watched start being md_growth's. Assumes nothing.
 use borrow.Author.Needs.{needs}
-use Rattle.md_running.specs.Opening.{fresh}
+use Rattle.md_running_meaning.specs.Opening.{fresh}
 use Rattle.md_running.proofs.step.fresh_line.Statement.{statement}
 use Rattle.md_running.proofs.step.fresh_line.Tie as tie
 

@@ -1,7 +1,7 @@
 -- A stopped line counts the character, any other is fed it. Assumes nothing.
 use mathlib.Core.Path.{_∙_}
 use borrow.Author.Needs.{needs}
-use Rattle.md_running.proofs.Laws.Feeding.{step-stopped, step-going}
+use Rattle.md_running_meaning.proofs.Laws.Feeding.{step-stopped, step-going}
 use Rattle.md_running.proofs.step.take.Statement.{statement}
 use Rattle.md_running.proofs.step.take.Tie as tie
 

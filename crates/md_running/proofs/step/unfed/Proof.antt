@@ -1,7 +1,7 @@
 -- What the definition hands back in a refusal. Assumes nothing.
 use mathlib.Core.Path.{refl}
 use Rattle.base.specs.Counted.{countUnless}
-use Rattle.md_running.specs.Feeding.{stateUnless, fedUnless}
+use Rattle.md_running_meaning.specs.Feeding.{stateUnless, fedUnless}
 use Rattle.md_running.proofs.step.unfed.Statement.{statement}
 use Rattle.md_running.proofs.step.unfed.Tie as tie
 

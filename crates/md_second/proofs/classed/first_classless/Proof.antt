@@ -5,8 +5,8 @@ use native.Mathlib.Omega.{arith}
 use Rattle.base.specs.First.{first}
 use Rattle.base.specs.Inner.First.{firstFrom}
 use Rattle.base.proofs.Laws.First.{first-start, first-hit, first-miss, first-end}
-use Rattle.md.specs.Scan.{unclassed}
-use Rattle.md.proofs.Laws.Scan.{is-unclassed, is-classed}
+use Rattle.md_meaning.specs.Scan.{unclassed}
+use Rattle.md_meaning.proofs.Laws.Scan.{is-unclassed, is-classed}
 use Rattle.md_second.proofs.Loops.Lists.{looked-up}
 use borrow.Author.Needs.{needs}
 use Rattle.md_second.proofs.classed.first_classless.Statement.{statement}

@@ -3,7 +3,7 @@ use denote.Ref.{now}
 use mathlib.Core.Path.{sym}
 use lib.ListN.{List·getD-eq-default}
 use Rattle.base.specs.Limits.{NEWLINE}
-use Rattle.md.proofs.Laws.Scan.{getD-any}
+use Rattle.md_meaning.proofs.Laws.Scan.{getD-any}
 use borrow.Author.Needs.{needs}
 use Rattle.md_second.proofs.classed.point_here.Statement.{statement}
 use Rattle.md_second.proofs.classed.point_here.Tie as tie

@@ -1,5 +1,5 @@
 -- The answer of the counts after n characters. Assumes nothing.
-use Rattle.md.specs.Scan.{scored, sumOf}
+use Rattle.md_meaning.specs.Scan.{scored, sumOf}
 use Rattle.md_second.specs.Inner.Listed.{answered}
 use Rattle.md_second.proofs.Laws.After.{eight-small}
 use mathlib.Core.Path.{sym, _∙_}

@@ -1,5 +1,5 @@
 -- The definition's test, with the period. Assumes nothing.
-use Rattle.md.specs.Text.{checkpoint}
+use Rattle.md_meaning.specs.Text.{checkpoint}
 use borrow.Author.Needs.{needs}
 use Rattle.md_second.proofs.scan.is_compared.Statement.{statement}
 use Rattle.md_second.proofs.scan.is_compared.Tie as tie

@@ -1,7 +1,7 @@
 -- Each length has one of three periods. Assumes nothing.
 use borrow.Author.Tests.{le-leb, lt-leb}
 use native.Mathlib.Omega.{arith}
-use Rattle.md.specs.Text.{period}
+use Rattle.md_meaning.specs.Text.{period}
 use Rattle.md_second.proofs.scan.period_of.Statement.{statement}
 use Rattle.md_second.proofs.scan.period_of.Tie as tie
 

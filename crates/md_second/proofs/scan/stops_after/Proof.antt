@@ -1,6 +1,6 @@
 -- Away from a checkpoint the definition's test is false, and at one it is the comparison. Assumes nothing.
 use mathlib.Core.Path.{sym, _∙_}
-use Rattle.md.specs.Scan.{sumOf}
+use Rattle.md_meaning.specs.Scan.{sumOf}
 use Rattle.md_second.specs.Inner.Listed.{stopsThere}
 use Rattle.md_second.proofs.Laws.After.{eight-small}
 use borrow.Author.Needs.{needs}

@@ -1,3 +1,0 @@
-pub mod Burst
-pub mod EachLine
-pub mod LinesBack

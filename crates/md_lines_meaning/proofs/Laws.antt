@@ -1,0 +1,4 @@
+pub mod Burst
+pub mod EachLine
+pub mod Lines
+pub mod LinesBack
