@@ -54,7 +54,7 @@ STATEMENTS = [
     ("md_compact", "Either", "compact-same"),  # scoring with a good compact table is scoring with its expansion
     ("md_compact", "Either", "packed-same"),  # and with what a good table packs to, scoring with that table
     ("md_second", "Agreed", "second-agrees"),  # 02 [10]: the two engines answer alike
-    ("ring", "History", "history"),  # 02 [11]: the accepted puts of a history of calls are the flushed records and those in the ring
+    ("ring_meaning", "History", "history"),  # 02 [11]: the accepted puts of a history of calls are the flushed records and those in the ring
     ("md_thresholds", "Thresholds", "higher-compared"),  # 02 [12]: what a higher threshold does, in three sentences
     ("md_thresholds", "Thresholds", "above-all"),  # no scan stops early at a threshold above HIGHEST
     ("md_report", "Report", "bins-add-up"),  # 02 [13]: the bins of each detector add up to the accepted lines

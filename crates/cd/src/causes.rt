@@ -6,7 +6,7 @@ ghost use lib.ListN.{length};
 ghost use Rattle.base.specs.Limits.{LONGEST-RANKED};
 ghost use Rattle.base.specs.Causes.{firstOf};
 ghost use Rattle.class_records.specs.Records.{goodTable};
-ghost use Rattle.cd.specs.Causes as spec;
+ghost use Rattle.cd_meaning.specs.Causes as spec;
 use base::Cause;
 use base::limits::LANGUAGE_RECORD;
 use base::limits::LONGEST_RANKED;

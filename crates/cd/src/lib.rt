@@ -2,9 +2,9 @@
 ghost use mathlib.Core.Path.{_≡_};
 ghost use lib.ListN.{length};
 ghost use Rattle.cd_ranking.specs.Ranking.{byValue};
-ghost use Rattle.cd.specs.Causes.{causes, causesDefault};
-ghost use Rattle.cd.specs.Inner.Causes.{Free};
-ghost use Rattle.cd.specs.Coherence as spec;
+ghost use Rattle.cd_meaning.specs.Causes.{causes, causesDefault};
+ghost use Rattle.cd_meaning.specs.Inner.Causes.{Free};
+ghost use Rattle.cd_meaning.specs.Coherence as spec;
 use base::Cause;
 use base::limits::WORK_PER_POINT;
 use causes::first_cause;

@@ -8,9 +8,9 @@ ghost use Rattle.cd_work.specs.Inner.Parts.{Room, Kept};
 ghost use Rattle.cd_letters.specs.Inner.LayerLetters.{layerLetters};
 ghost use Rattle.cd_taken.specs.Inner.Area.{FewUndotted};
 ghost use Rattle.cd_best.specs.Inner.Standing as standings;
-ghost use Rattle.cd.specs.Inner.After.{layerAfter, orderAfter};
-ghost use Rattle.cd.specs.Inner.Comparable.{Comparable};
-ghost use Rattle.cd.specs.Inner.Reading.{readFrom};
+ghost use Rattle.cd_meaning.specs.Inner.After.{layerAfter, orderAfter};
+ghost use Rattle.cd_meaning.specs.Inner.Comparable.{Comparable};
+ghost use Rattle.cd_meaning.specs.Inner.Reading.{readFrom};
 use cd_best::Standing;
 use cd_work::order_start;
 

@@ -8,7 +8,7 @@ use lib.Dec.{eqb}
 use Rattle.base.specs.First.{first}
 use Rattle.base.specs.Limits.{CLASS-RECORD}
 use Rattle.class_records.specs.Records.{records, recordAt}
-use Rattle.ring.specs.Record.{leBytes}
+use Rattle.ring_meaning.specs.Record.{leBytes}
 use Rattle.class_compact.specs.Form.{SHARED-BYTES, PLACE-BYTES, LETTERS-RECORD, LETTERS-AT, lettersIn, bytesFrom, joined}
 
 module _ (t : List ℕ) where

@@ -11,8 +11,8 @@ use Rattle.md_meaning.specs.declared.Scored.{Scored}
 use Rattle.md_meaning.specs.Values.{Values as ScoreValues, values as scoreValues}
 use Rattle.md_chooser.specs.declared.Judged.{Judged}
 use Rattle.md_chooser.specs.Choose.{values as verdictValues}
-use Rattle.ring.specs.declared.Ringed.{Ringed}
-use Rattle.ring.specs.Calls.{values as ringValues}
+use Rattle.ring_meaning.specs.declared.Ringed.{Ringed}
+use Rattle.ring_meaning.specs.Calls.{values as ringValues}
 use Rattle.host.specs.declared.HostCounts.{HostCounts}
 use Rattle.host.specs.declared.HostRead.{HostRead}
 use Rattle.host.specs.declared.HostRing.{HostRing}

@@ -28,7 +28,7 @@ use md_reason_meaning::Reasoned;
 use ratio::EightShown;
 use ratio::Shown;
 use ratio::rounding::no_ratios;
-use ring::Ringed;
+use ring_meaning::Ringed;
 
 pub fn flat_counted(counted: Counted) -> HostRead
     ensures { λ r. ⌜ r ≡ hostCounted counted ⌝ }

@@ -11,11 +11,11 @@ use replay::say;
 use replay::word;
 use ring::MOST_SLOTS;
 use ring::RECORD;
-use ring::Ringed;
-use ring::Verdict;
 use ring::flush_records;
 use ring::open_ring;
 use ring::put_record;
+use ring_meaning::Ringed;
+use ring_meaning::Verdict;
 
 // The words at the head of a case: which call, its arguments, its answer, and how many bytes of the ring and of the output are told.
 const CALL: usize = 0;

@@ -4,9 +4,9 @@ ghost use mathlib.Core.List.{flatten};
 ghost use Prim.Native.Nat.{_+_, _*_, _≤_};
 ghost use lib.ListN.{length};
 ghost use Rattle.base.specs.Put.{put};
-ghost use Rattle.ring.specs.Record as records;
-ghost use Rattle.ring.specs.Ring.{recordsFrom};
-ghost use Rattle.ring.specs.Inner.Ring.{GoodRing};
+ghost use Rattle.ring_meaning.specs.Record as records;
+ghost use Rattle.ring_meaning.specs.Ring.{recordsFrom};
+ghost use Rattle.ring_meaning.specs.Inner.Ring.{GoodRing};
 use crate::RECORD;
 use crate::size::wrapped;
 

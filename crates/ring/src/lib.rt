@@ -4,7 +4,7 @@ ghost use mathlib.Core.Path.{_≡_};
 ghost use lib.ListN.{length};
 ghost use Rattle.base.specs.declared.Cause.the-variants.{Allowed};
 ghost use Rattle.base.specs.Causes.{refusedAt};
-ghost use Rattle.ring.specs.Calls as calls;
+ghost use Rattle.ring_meaning.specs.Calls as calls;
 use base::Refusal;
 use base::refusals::BAD_RING;
 use base::refusals::NO_ROOM;
@@ -12,6 +12,9 @@ use base::refusals::RING_FULL;
 use copy::copy_records;
 use copy::put_bytes;
 use record::record_of;
+use ring_meaning::Kept;
+use ring_meaning::Ringed;
+use ring_meaning::Verdict;
 use size::lesser;
 use size::wrapped;
 use size::wrong_ring;
@@ -26,28 +29,6 @@ pub const RECORD: usize = 32;
 
 // The most records of a ring.
 pub const MOST_SLOTS: usize = 2048;
-
-// What a record tells of a line: its number, and its score's bits, the characters fed, the mark of having stopped and a refusal's number. They are
-// stored as they are given.
-pub struct Verdict {
-    pub line: u64,
-    pub bits: u32,
-    pub fed: u32,
-    pub stopped: u32,
-    pub refusal: u32,
-}
-
-// What the caller keeps with a ring: the slot of the oldest record, and how many records there are.
-pub struct Kept {
-    pub head: u32,
-    pub count: u32,
-}
-
-// What to keep from now on, or why a call refused.
-pub enum Ringed {
-    Kept(Kept),
-    Refused(Refusal),
-}
 
 // A ring with nothing in it. Its bytes stay as they are.
 pub fn open_ring(ring: &[u8]) -> Ringed

@@ -3,10 +3,10 @@ ghost use mathlib.Core.Path.{_≡_};
 ghost use Prim.Native.Nat.{_+_, _≤_};
 ghost use lib.ListN.{length};
 ghost use Rattle.base.specs.Put.{put};
-ghost use Rattle.ring.specs.Record.{leBytes, recordOf};
+ghost use Rattle.ring_meaning.specs.Record.{leBytes, recordOf};
 use crate::RECORD;
-use crate::Verdict;
 use crate::copy::put_bytes;
+use ring_meaning::Verdict;
 
 // Where the numbers stand in a record, the line's number first. What is behind the last stays zero.
 const BITS_AT: usize = 8;

@@ -1,7 +1,7 @@
 // The tests of a ring, and the lesser of two numbers.
 ghost use mathlib.Core.Path.{_≡_};
 ghost use Prim.Native.Nat.{min, _+_, _%_, _<_};
-ghost use Rattle.ring.specs.Ring.{wrongSize, wrongRing};
+ghost use Rattle.ring_meaning.specs.Ring.{wrongSize, wrongRing};
 use crate::MOST_SLOTS;
 use crate::RECORD;
 

@@ -1,6 +1,6 @@
 -- Where there is a cause, it is the answer and nothing was written; where there is none, the text is ranked. Assumes nothing.
-use Rattle.cd.proofs.Laws.Causes.{allowed-free}
-use Rattle.cd.proofs.Laws.Coherence.{refused-ends, allowed-ends}
+use Rattle.cd_meaning.proofs.Laws.Causes.{allowed-free}
+use Rattle.cd_meaning.proofs.Laws.Coherence.{refused-ends, allowed-ends}
 use borrow.Author.Needs.{needs}
 use Rattle.cd.proofs.coherence_ratio.Statement.{statement}
 use Rattle.cd.proofs.coherence_ratio.Tie as tie

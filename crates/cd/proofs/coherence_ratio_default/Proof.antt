@@ -1,5 +1,5 @@
 -- 0.1 is finite, so that the cause between the two is never given. Assumes nothing.
-use Rattle.cd.proofs.Laws.Coherence.{default-ends}
+use Rattle.cd_meaning.proofs.Laws.Coherence.{default-ends}
 use borrow.Author.Needs.{needs}
 use Rattle.cd.proofs.coherence_ratio_default.Statement.{statement}
 use Rattle.cd.proofs.coherence_ratio_default.Tie as tie

@@ -1,6 +1,6 @@
 -- The filled area is split, the split one read, and each layer read has the letters that 01 gives it; the cleared area has nothing left of them. Assumes nothing.
 use native.Mathlib.Omega.{arith}
-use Rattle.cd.proofs.Laws.Coherence.{fill-room, split-needs, split-room, room-after, undotted-after, few-layers, standing-tallies, ranked-is, cleared-is}
+use Rattle.cd_meaning.proofs.Laws.Coherence.{fill-room, split-needs, split-room, room-after, undotted-after, few-layers, standing-tallies, ranked-is, cleared-is}
 use borrow.Author.Needs.{needs}
 use Rattle.cd.proofs.rank_text.Statement.{statement}
 use Rattle.cd.proofs.rank_text.Tie as tie

@@ -7,7 +7,7 @@ use native.Mathlib.Nat.{add-zero}
 use native.Mathlib.Omega.{arith}
 use lib.ListN.{getD, replicate}
 use Rattle.base.specs.LittleEndian.{le16, le32}
-use Rattle.ring.specs.Record.{leBytes}
+use Rattle.ring_meaning.specs.Record.{leBytes}
 use Rattle.class_compact.specs.Form.{Bytes, bytesFrom}
 use Rattle.class_compact.specs.Inner.Form.{HALF}
 use Rattle.class_compact.proofs.Laws.Form.{bytes-same, bytes-split}

@@ -8,7 +8,7 @@ use lib.ListN.{length, set, take, drop, replicate}
 use Rattle.base.specs.Limits.{CLASS-RECORD}
 use Rattle.base.specs.Put.{put}
 use Rattle.class_records.specs.Records.{records}
-use Rattle.ring.specs.Record.{leBytes}
+use Rattle.ring_meaning.specs.Record.{leBytes}
 use Rattle.class_compact.specs.Form.{COMPACT-RECORD, SHARED-BYTES, bytesFrom}
 use Rattle.class_compact.specs.Packed.{packedPlace, compacted}
 use Rattle.class_compact.proofs.Laws.Form.{bytes-slice}

@@ -18,7 +18,7 @@ use Rattle.base.proofs.Laws.Tests.{by-bool, split, and-l, and-yes, within-yes}
 use Rattle.class_records.specs.Records.{records, recordAt, goodTable}
 use Rattle.class_records.proofs.Laws.Records.{table-number, table-fields}
 use Rattle.classes.proofs.Laws.Check.{good-free}
-use Rattle.ring.specs.Record.{leBytes}
+use Rattle.ring_meaning.specs.Record.{leBytes}
 use Rattle.class_compact.specs.Form.{COMPACT-RECORD, Bytes, SHARED-BYTES, LETTERS-RECORD, LETTERS-AT, compactRecords, lettersIn, placeAt, baseAt, lowerAt, bytesFrom, joined}
 use Rattle.class_compact.specs.Unpacked.{lettersBytes, expansion, unpacked}
 use Rattle.class_compact.specs.Check.{noLetters, lettersAre, repeated, badCompact}

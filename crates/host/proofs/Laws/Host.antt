@@ -22,10 +22,10 @@ use Rattle.md_lines_meaning.specs.Burst.{numbers, rowNumbers}
 use Rattle.md_chooser.specs.declared.Judged.{Judged}
 use Rattle.md_chooser.specs.declared.Judged.the-variants.{First, Second, FirstRefused, SecondRefused}
 use Rattle.md_chooser.specs.Choose.{values as verdictValues}
-use Rattle.ring.specs.declared.Kept.{Kept}
-use Rattle.ring.specs.declared.Ringed.{Ringed}
-use Rattle.ring.specs.declared.Ringed.the-variants.{Kept as Keep, Refused as NotKept}
-use Rattle.ring.specs.Calls.{values as ringValues}
+use Rattle.ring_meaning.specs.declared.Kept.{Kept}
+use Rattle.ring_meaning.specs.declared.Ringed.{Ringed}
+use Rattle.ring_meaning.specs.declared.Ringed.the-variants.{Kept as Keep, Refused as NotKept}
+use Rattle.ring_meaning.specs.Calls.{values as ringValues}
 use Rattle.host.specs.declared.HostCounts.{HostCounts}
 use Rattle.host.specs.declared.HostRead.{HostRead}
 use Rattle.host.specs.declared.HostRing.{HostRing}

@@ -32,8 +32,8 @@ use Rattle.base.specs.Counted.{lentAfter}
 use Rattle.cd_ranking.specs.declared.CoherenceMatch.{CoherenceMatch}
 use Rattle.cd_ranking.specs.declared.Ranking.{Ranking}
 use Rattle.cd_list.specs.declared.HostRanking.{HostRanking}
-use Rattle.cd.specs.Causes.{causes}
-use Rattle.cd.specs.Coherence.{coherenceRatio, matchesOf, workAfter}
+use Rattle.cd_meaning.specs.Causes.{causes}
+use Rattle.cd_meaning.specs.Coherence.{coherenceRatio, matchesOf, workAfter}
 use Rattle.host.specs.Matches.{hostRanking}
 use Rattle.cd_ranking.proofs.CoherenceMatch as T
 

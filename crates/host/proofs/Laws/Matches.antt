@@ -21,10 +21,10 @@ use Rattle.cd_ranking.specs.Ranking.{byValue, refusedRanking}
 use Rattle.cd_list.specs.declared.HostRanking.{HostRanking}
 use Rattle.cd_list.specs.Inner.Lent.{matchesIn, answerOf}
 use Rattle.cd_list.proofs.Laws.Lent.{matches-are, matches-none}
-use Rattle.cd.specs.Causes.{causes, causesDefault}
-use Rattle.cd.proofs.Laws.Causes.{default-causes}
-use Rattle.cd.specs.Coherence.{DEFAULT-THRESHOLD, matchesOf, answered, coherenceRatio}
-use Rattle.cd.proofs.Laws.Coherence.{default-finite}
+use Rattle.cd_meaning.specs.Causes.{causes, causesDefault}
+use Rattle.cd_meaning.proofs.Laws.Causes.{default-causes}
+use Rattle.cd_meaning.specs.Coherence.{DEFAULT-THRESHOLD, matchesOf, answered, coherenceRatio}
+use Rattle.cd_meaning.proofs.Laws.Coherence.{default-finite}
 use Rattle.host.specs.Matches.{hostRanking, hostMerged}
 
 pub answer-is : (c : Cause) (matches : List CoherenceMatch) → answerOf (answered c matches) ≡ hostRanking c matches

@@ -45,7 +45,7 @@ use Rattle.cd_ranking.specs.declared.Ranking.{Ranking}
 use Rattle.cd_list.specs.declared.HostRanking.{HostRanking}
 use Rattle.base.specs.Put.{put as putAt}
 use Rattle.cd_list.specs.Inner.Lent.{matchesIn, answerOf}
-use Rattle.cd.proofs.Laws.Fits.{ratio-fits}
+use Rattle.cd_meaning.proofs.Laws.Fits.{ratio-fits}
 use Rattle.host.proofs.Laws.Matches.{ratio-answer, ratio-after}
 use Rattle.host.proofs.Laws.Lent.{Rest, work, matches, room, val, found, worked, shared, rest, rest-vals, rest-tell, gone, rest-kept, rest-stays, shared-goes, rest-go, rest-had, both}
 use Rattle.host.proofs.Laws.Tokens.{lfts-but-last, last-lft, shares-but-last, last-share, apart, together}

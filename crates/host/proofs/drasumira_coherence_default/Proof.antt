@@ -39,8 +39,8 @@ use denote.Triple.Table.{entered, cited}
 use denote.Triple.Walked.{says, Stays, hasOf, walkOf, Walks, ends-at, walked, walk-meets}
 use Rattle.cd_ranking.specs.declared.CoherenceMatch.{CoherenceMatch}
 use Rattle.cd_list.specs.declared.HostRanking.{HostRanking}
-use Rattle.cd.specs.Coherence.{DEFAULT-THRESHOLD}
-use Rattle.cd.proofs.Laws.Coherence.{default-work}
+use Rattle.cd_meaning.specs.Coherence.{DEFAULT-THRESHOLD}
+use Rattle.cd_meaning.proofs.Laws.Coherence.{default-work}
 use Rattle.host.proofs.Laws.Matches.{default-answer, default-after}
 use Rattle.host.proofs.Laws.Lent.{Rest, work, matches, room, val, answer, worked, matched, shared, rest, rest-vals, rest-tell, gone, rest-kept, rest-stays, shared-goes, rest-go, rest-had, both}
 use Rattle.host.proofs.drasumira_coherence.Symbol.{name as #host·drasumira-coherence}

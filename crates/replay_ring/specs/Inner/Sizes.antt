@@ -1,8 +1,8 @@
 -- The sizes of the replay, by the names of src/main.rt.
 -- Assumes nothing.
 use Prim.Native.Nat.{ℕ, _+_, _*_}
-use Rattle.ring.specs.Record.{RECORD}
-use Rattle.ring.specs.Ring.{MOST-SLOTS}
+use Rattle.ring_meaning.specs.Record.{RECORD}
+use Rattle.ring_meaning.specs.Ring.{MOST-SLOTS}
 
 abbrev pub CASE-BYTES : ℕ
 CASE-BYTES = 4096

@@ -8,10 +8,10 @@ use native.Mathlib.Omega.{arith}
 use lib.ListN.{length, take, drop}
 use Rattle.base.specs.Put.{put}
 use Rattle.base.proofs.Laws.Put.{put-nothing, put-length}
-use Rattle.ring.specs.Record.{RECORD}
-use Rattle.ring.specs.Ring.{slots, slot, recordsFrom}
-use Rattle.ring.specs.Inner.Ring.{GoodRing}
-use Rattle.ring.proofs.Laws.Ring.{slot-inside, slot-length, records-none, records-more, flat-more, flat-length, put-next}
+use Rattle.ring_meaning.specs.Record.{RECORD}
+use Rattle.ring_meaning.specs.Ring.{slots, slot, recordsFrom}
+use Rattle.ring_meaning.specs.Inner.Ring.{GoodRing}
+use Rattle.ring_meaning.proofs.Laws.Ring.{slot-inside, slot-length, records-none, records-more, flat-more, flat-length, put-next}
 
 pub record Copying (ring : List ℕ) (head n : ℕ) (old out : List ℕ) (i : ℕ) : Type 0 where
   pub good : GoodRing ring head n

@@ -1,9 +1,9 @@
 -- Each return is one of the causes, in their order, or the oldest records. Assumes nothing.
 use mathlib.Core.Path.{sym, _∙_}
 use native.Mathlib.Omega.{arith}
-use Rattle.ring.proofs.Laws.Calls.{flush-bad, flush-room, flush-kept}
-use Rattle.ring.proofs.Laws.Ring.{slot-small}
-use Rattle.ring.proofs.Laws.Size.{good-ring, good-fewer}
+use Rattle.ring_meaning.proofs.Laws.Calls.{flush-bad, flush-room, flush-kept}
+use Rattle.ring_meaning.proofs.Laws.Ring.{slot-small}
+use Rattle.ring_meaning.proofs.Laws.Size.{good-ring, good-fewer}
 use borrow.Author.Needs.{needs}
 use Rattle.ring.proofs.flush_records.Statement.{statement}
 use Rattle.ring.proofs.flush_records.Tie as tie

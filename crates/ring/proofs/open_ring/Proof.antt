@@ -1,7 +1,7 @@
 -- The one cause, or none. Assumes nothing.
 use mathlib.Core.Path.{sym, _∙_}
 use borrow.Author.Needs.{needs}
-use Rattle.ring.proofs.Laws.Calls.{open-refused, open-kept}
+use Rattle.ring_meaning.proofs.Laws.Calls.{open-refused, open-kept}
 use Rattle.ring.proofs.open_ring.Statement.{statement}
 use Rattle.ring.proofs.open_ring.Tie as tie
 

@@ -1,10 +1,10 @@
 -- Each return is one of the causes, in their order, or the record behind the newest one. Assumes nothing.
 use mathlib.Core.Path.{sym, _∙_}
 use native.Mathlib.Omega.{arith}
-use Rattle.ring.proofs.Laws.Calls.{put-bad, put-full, put-kept}
-use Rattle.ring.proofs.Laws.Record.{record-length}
-use Rattle.ring.proofs.Laws.Ring.{free-inside}
-use Rattle.ring.proofs.Laws.Size.{good-ring}
+use Rattle.ring_meaning.proofs.Laws.Calls.{put-bad, put-full, put-kept}
+use Rattle.ring_meaning.proofs.Laws.Record.{record-length}
+use Rattle.ring_meaning.proofs.Laws.Ring.{free-inside}
+use Rattle.ring_meaning.proofs.Laws.Size.{good-ring}
 use borrow.Author.Needs.{needs}
 use Rattle.ring.proofs.put_record.Statement.{statement}
 use Rattle.ring.proofs.put_record.Tie as tie

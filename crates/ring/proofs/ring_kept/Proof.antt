@@ -1,6 +1,6 @@
 -- The case in which nothing is refused. Assumes nothing.
 use mathlib.Core.Path.{refl}
-use Rattle.ring.specs.Calls.{keptUnless}
+use Rattle.ring_meaning.specs.Calls.{keptUnless}
 use Rattle.ring.proofs.ring_kept.Statement.{statement}
 use Rattle.ring.proofs.ring_kept.Tie as tie
 

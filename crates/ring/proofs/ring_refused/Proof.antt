@@ -1,7 +1,7 @@
 -- The case of a refusal. Assumes nothing.
 use mathlib.Core.Path.{refl}
 use Rattle.base.specs.Causes.{refusedAt}
-use Rattle.ring.specs.Calls.{keptUnless}
+use Rattle.ring_meaning.specs.Calls.{keptUnless}
 use Rattle.ring.proofs.ring_refused.Statement.{statement}
 use Rattle.ring.proofs.ring_refused.Tie as tie
 

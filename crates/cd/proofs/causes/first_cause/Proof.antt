@@ -1,7 +1,7 @@
 -- Each return is the next of 01's causes, or what comes behind them. Assumes nothing.
 use mathlib.Core.Path.{sym, _∙_}
 use borrow.Author.Tests.{not-true, not-false}
-use Rattle.cd.proofs.Laws.Causes.{cause-long, cause-unbounded, cause-on}
+use Rattle.cd_meaning.proofs.Laws.Causes.{cause-long, cause-unbounded, cause-on}
 use borrow.Author.Needs.{needs}
 use Rattle.cd.proofs.causes.first_cause.Statement.{statement}
 use Rattle.cd.proofs.causes.first_cause.Tie as tie

@@ -1,6 +1,6 @@
 -- Each return is the next of 01's causes, or what comes behind them. Assumes nothing.
 use mathlib.Core.Path.{sym, _∙_}
-use Rattle.cd.proofs.Laws.Causes.{languages-bad, included-bad, languages-on}
+use Rattle.cd_meaning.proofs.Laws.Causes.{languages-bad, included-bad, languages-on}
 use borrow.Author.Needs.{needs}
 use Rattle.cd.proofs.causes.of_languages.Statement.{statement}
 use Rattle.cd.proofs.causes.of_languages.Tie as tie

@@ -1,7 +1,7 @@
 -- Each return is the next of 01's causes, or what comes behind them, the class table being good. Assumes nothing.
 use mathlib.Core.Path.{sym, _∙_}
 use Rattle.classes.proofs.Laws.Check.{free-good}
-use Rattle.cd.proofs.Laws.Causes.{classes-bad, pairs-bad, tables-on}
+use Rattle.cd_meaning.proofs.Laws.Causes.{classes-bad, pairs-bad, tables-on}
 use borrow.Author.Needs.{needs}
 use Rattle.cd.proofs.causes.of_tables.Statement.{statement}
 use Rattle.cd.proofs.causes.of_tables.Tie as tie

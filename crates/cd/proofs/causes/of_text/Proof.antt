@@ -2,7 +2,7 @@
 use mathlib.Core.Path.{ap, _∙_}
 use Rattle.base.specs.Refusals.{UNCLASSED}
 use Rattle.base.specs.Causes.{refusedAt}
-use Rattle.cd.proofs.Laws.Causes.{text-room, text-unclassed, text-free}
+use Rattle.cd_meaning.proofs.Laws.Causes.{text-room, text-unclassed, text-free}
 use borrow.Author.Needs.{needs}
 use Rattle.cd.proofs.causes.of_text.Statement.{statement}
 use Rattle.cd.proofs.causes.of_text.Tie as tie

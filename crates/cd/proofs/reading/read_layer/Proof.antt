@@ -5,7 +5,7 @@ use lib.Seq.{length-take-le}
 use denote.Ref.{now}
 use Rattle.cd_work.proofs.Laws.Layer.{kept-same}
 use Rattle.cd_letters.proofs.Laws.Ranked.{ranked-kept}
-use Rattle.cd.proofs.Loops.Reading.{layer-skipped, layer-taken, standing-few, standing-end}
+use Rattle.cd_meaning.proofs.Laws.Reading.{layer-skipped, layer-taken, standing-few, standing-end}
 use borrow.Author.Needs.{needs}
 use Rattle.cd.proofs.reading.read_layer.Statement.{statement}
 use Rattle.cd.proofs.reading.read_layer.Tie as tie

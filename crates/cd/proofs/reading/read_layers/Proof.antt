@@ -3,7 +3,7 @@
 use Prim.Native.Nat.{_-_}
 use native.Mathlib.Omega.{arith}
 use Rattle.cd_best.specs.Inner.Standing.{start}
-use Rattle.cd.proofs.Loops.Reading.{Reading, read-start, read-room, read-undotted, read-more, read-bound, read-end}
+use Rattle.cd_meaning.proofs.Laws.Reading.{Reading, read-start, read-room, read-undotted, read-more, read-bound, read-end}
 use borrow.Author.Needs.{needs}
 use Rattle.cd.proofs.reading.read_layers.Statement.{statement}
 use Rattle.cd.proofs.reading.read_layers.Tie as tie

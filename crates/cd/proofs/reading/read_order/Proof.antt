@@ -1,6 +1,6 @@
 -- The accents are those of the letters in order. Assumes nothing.
 use mathlib.Core.Path.{_∙_}
-use Rattle.cd.specs.Inner.After.{orderAfter}
+use Rattle.cd_meaning.specs.Inner.After.{orderAfter}
 use borrow.Author.Needs.{needs}
 use Rattle.cd.proofs.reading.read_order.Statement.{statement}
 use Rattle.cd.proofs.reading.read_order.Tie as tie

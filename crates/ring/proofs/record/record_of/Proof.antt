@@ -1,5 +1,5 @@
 -- Zeros, with each number's bytes put into their place. Assumes nothing.
-use Rattle.ring.proofs.Laws.Record.{record-made}
+use Rattle.ring_meaning.proofs.Laws.Record.{record-made}
 use borrow.Author.Needs.{needs}
 use Rattle.ring.proofs.record.record_of.Statement.{statement}
 use Rattle.ring.proofs.record.record_of.Tie as tie

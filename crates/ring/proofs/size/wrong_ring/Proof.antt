@@ -1,6 +1,6 @@
 -- The same tests. Assumes nothing.
 use borrow.Author.Needs.{needs}
-use Rattle.ring.specs.Ring.{wrongRing}
+use Rattle.ring_meaning.specs.Ring.{wrongRing}
 use Rattle.ring.proofs.size.wrong_ring.Statement.{statement}
 use Rattle.ring.proofs.size.wrong_ring.Tie as tie
 

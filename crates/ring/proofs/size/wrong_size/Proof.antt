@@ -1,6 +1,6 @@
 -- The same tests. Assumes nothing.
 use mathlib.Core.Path.{refl}
-use Rattle.ring.specs.Ring.{wrongSize}
+use Rattle.ring_meaning.specs.Ring.{wrongSize}
 use Rattle.ring.proofs.size.wrong_size.Statement.{statement}
 use Rattle.ring.proofs.size.wrong_size.Tie as tie
 
