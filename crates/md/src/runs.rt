@@ -4,14 +4,13 @@ ghost use mathlib.Core.Path.{_≡_};
 ghost use mathlib.Core.Bool.{true};
 ghost use Prim.Native.Nat.{_≤_, _<_};
 ghost use lib.ListN.{length};
-ghost use Rattle.base.specs.Limits.{BUILTIN-END, LONGEST-TEXT, LAST-RANGE, PAIR-BYTES};
+ghost use Rattle.base.specs.Limits.{BUILTIN-END, LONGEST-TEXT};
 ghost use Rattle.class_records.specs.Records.{records};
 ghost use Rattle.classes.specs.Lookup.{orSelf};
-ghost use Rattle.md_eight.specs.Detectors.{lastRange};
-ghost use Rattle.md_eight.specs.Inner.Detectors.{Room};
 ghost use Rattle.md_eight.specs.Inner.Runs as kinds;
+ghost use Rattle.md_eight.specs.Inner.Runs.{LOWER-FIRST, LOWER-LAST};
 ghost use Rattle.md_meaning.specs.Text.{total};
-ghost use Rattle.md.specs.Inner.Runs.{Low, High, AlikeOf, Run, LowerRun, Before, Lent, HeldAt, Spaced, Advanced};
+ghost use Rattle.md.specs.Inner.Runs.{Low, High, AlikeOf, Run, Before, Lent, HeldAt, Spaced, Advanced};
 use crate::rest::past_within;
 use crate::scan::fed;
 use crate::text::at_checkpoint;
@@ -100,18 +99,22 @@ fn own_base(base: u32, point: u32) -> u32
     base
 }
 
-// ASCII's lower-case letters from i on.
-fn fed_lower(s: Detectors, text: &[u32], i: usize, pairs: &[u8]) -> Fed
-    requires { ⌜ Room s × (length (now pairs) ≡ PAIR-BYTES) × (lastRange s ≤ LAST-RANGE) × (i < length (now text)) × (length (now text) ≤ LONGEST-TEXT) ⌝ }
-    ensures { λ r. ⌜ LowerRun (now (pairs .entry)) (now (text .entry)) s i r ⌝ }
+// ASCII's lower-case letters from i on, and the space behind them: most of a text in English goes this way, with the space in line. `classes` is read by the contract alone.
+fn fed_lower(s: Detectors, c: Class, text: &[u32], i: usize, classes: &[u8], pairs: &[u8]) -> Fed
+    requires { ⌜ Before (now classes) (now pairs) (now text) s c i × (LOWER-FIRST ≤ c .point) × (c .point ≤ LOWER-LAST) ⌝ }
+    ensures { λ r. ⌜ Advanced (now (classes .entry)) (now (pairs .entry)) (now (text .entry)) i r ⌝ }
 {
     let next = run_end(text, i, LOWER_FIRST, LOWER_LAST);
     let suspicious = is_suspicious(pairs, s.last_range(), BASIC_LATIN);
     let again = is_suspicious(pairs, BASIC_LATIN, BASIC_LATIN);
-    Fed {
-        state: s.lower_run((next - i) as u32, text[next - 1], suspicious, again),
-        next,
+    let t = s.lower_run((next - i) as u32, text[next - 1], suspicious, again);
+    if before_space(text, next) {
+        return Fed {
+            state: t.space(),
+            next: next + 1,
+        };
     }
+    Fed { state: t, next }
 }
 
 // Letters of one case that one record holds, from i on. The first of them is of class c; the base of the last is its own where the record has none.
@@ -183,7 +186,7 @@ fn runs_on(p: u32, text: &[u32], i: usize, held: usize, classes: &[u8]) -> bool
     (first_of(classes, held) <= q) & (q <= last_of(classes, held))
 }
 
-// The character at i, which is of class c and which the lent record `held` holds if any does, and those behind it that are fed with it.
+// The character at i, which is of class c and which the lent record `held` holds if any does, and those behind it that the record holds too.
 fn fed_word(
     s: Detectors,
     c: Class,
@@ -196,9 +199,6 @@ fn fed_word(
     requires { ⌜ Before (now classes) (now pairs) (now text) s c i × HeldAt (now classes) (c .point) held ⌝ }
     ensures { λ r. ⌜ Advanced (now (classes .entry)) (now (pairs .entry)) (now (text .entry)) i r ⌝ }
 {
-    if (LOWER_FIRST <= c.point) & (c.point <= LOWER_LAST) {
-        return fed_lower(s, text, i, pairs);
-    }
     if runs_on(c.point, text, i, held, classes) & !wrong_stop(c.point) {
         if is_uncased(c.flags) {
             return fed_uncased(s, c, text, i, held, classes, pairs);
@@ -227,7 +227,7 @@ fn before_space(text: &[u32], i: usize) -> bool
     false
 }
 
-// The same, with the space behind them: so it goes with the word that it closes.
+// The character at i and those of its kind behind it, with the space behind them: so it goes with the word that it closes.
 pub fn fed_run(
     s: Detectors,
     c: Class,
@@ -240,14 +240,21 @@ pub fn fed_run(
     requires { ⌜ Before (now classes) (now pairs) (now text) s c i × HeldAt (now classes) (c .point) held ⌝ }
     ensures { λ r. ⌜ Advanced (now (classes .entry)) (now (pairs .entry)) (now (text .entry)) i r ⌝ }
 {
+    if (LOWER_FIRST <= c.point) & (c.point <= LOWER_LAST) {
+        return fed_lower(s, c, text, i, classes, pairs);
+    }
     let f = fed_word(s, c, text, i, held, classes, pairs);
     let t = f.state;
-    let next = f.next;
-    if before_space(text, next) {
+    let slim = t.slimmed();
+    let end = f.next;
+    if before_space(text, end) {
         return Fed {
-            state: t.space(),
-            next: next + 1,
+            state: slim.space(),
+            next: end + 1,
         };
     }
-    f
+    Fed {
+        state: slim,
+        next: end,
+    }
 }

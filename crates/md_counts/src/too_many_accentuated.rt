@@ -9,7 +9,6 @@ ghost use Rattle.ratio.specs.Fraction.{shareOf};
 use base::flags::ACCENTUATED;
 use base::flags::ALPHABETIC;
 use base::is_set;
-use base::one;
 use base::pick;
 use classes::Class;
 use ratio::Counts;
@@ -47,26 +46,18 @@ impl TooManyAccentuated {
         requires { ⌜ Room self ⌝ }
         ensures { λ r. ⌜ r ≡ feed self c ⌝ }
     {
-        if !is_set(c.flags, ALPHABETIC) {
-            return self;
-        }
-        TooManyAccentuated {
-            characters: self.characters + 1,
-            accentuated: self.accentuated + one(is_set(c.flags, ACCENTUATED)),
-        }
+        self.feed_run(c.flags, 1)
     }
 
-    // m characters with the same flags.
+    // m characters with the same flags. Without a branch: where one hands the state on whole, the compiler packs its two counts into one word and unpacks them again.
     pub fn feed_run(self, f: u32, m: u32) -> TooManyAccentuated
         requires { ⌜ Room self × (m ≤ LARGEST) ⌝ }
         ensures { λ r. ⌜ r ≡ feedRun self f m ⌝ }
     {
-        if !is_set(f, ALPHABETIC) {
-            return self;
-        }
+        let letter = is_set(f, ALPHABETIC);
         TooManyAccentuated {
-            characters: self.characters + m,
-            accentuated: self.accentuated + pick(is_set(f, ACCENTUATED), m, 0),
+            characters: self.characters + pick(letter, m, 0),
+            accentuated: self.accentuated + pick(letter & is_set(f, ACCENTUATED), m, 0),
         }
     }
 

@@ -4,7 +4,7 @@ ghost use mathlib.Core.Bool.{false};
 ghost use Prim.Native.Nat.{_<_, _≤_};
 ghost use Rattle.base.specs.Inner.Limits.{LARGEST};
 ghost use Rattle.md_eight.specs.Detectors as detectors;
-ghost use Rattle.md_eight.specs.Inner.Detectors.{Room, FedCount};
+ghost use Rattle.md_eight.specs.Inner.Detectors.{Room, FedCount, Slim};
 ghost use Rattle.md_eight.specs.Inner.Runs as runs;
 use crate::Detectors;
 use base::flags::ACCENTUATED;
@@ -25,6 +25,8 @@ use base::flags::UPPERCASE;
 use base::flags::WHITESPACE;
 use base::is_set;
 use classes::Class;
+use md_counts::cjk_invalid_stop::CjkInvalidStop;
+use md_counts::too_many_accentuated::TooManyAccentuated;
 use md_counts::too_many_symbol_or_punctuation::TooManySymbolOrPunctuation;
 use md_counts::unprintable::Unprintable;
 use md_neighbours::suspicious_range::SuspiciousRange;
@@ -173,17 +175,44 @@ impl Detectors {
         }
     }
 
-    // The same state after n characters: what counts all of them, and what counts the printable ones, is made of n. A loop that has it made so need not
+    // The same state, where no word is watched. The states of two counts are handed on field by field: copied whole, the compiler packs them into one word and unpacks them again.
+    pub fn slimmed(self) -> Detectors
+        requires { ⌜ Slim self ⌝ }
+        ensures { λ r. ⌜ r ≡ self ⌝ }
+    {
+        let symbols = self.symbols;
+        let ranges = self.ranges;
+        let doubled = self.doubled;
+        let archaic = self.archaic;
+        Detectors {
+            symbols,
+            accents: TooManyAccentuated {
+                characters: self.accents.characters,
+                accentuated: self.accents.accentuated,
+            },
+            unprintable: Unprintable {
+                characters: self.unprintable.characters,
+                unprintable: self.unprintable.unprintable,
+            },
+            ranges,
+            doubled,
+            words: self.words.unwatched(),
+            stops: CjkInvalidStop {
+                wrong: self.stops.wrong,
+                cjk: self.stops.cjk,
+            },
+            archaic,
+        }
+    }
+
+    // The same after n characters: what counts all of them, and what counts the printable ones, is made of n. A loop that has it made so need not
     // carry these four from character to character.
     pub fn recounted(self, n: u32) -> Detectors
-        requires { ⌜ FedCount self n ⌝ }
+        requires { ⌜ FedCount self n × Slim self ⌝ }
         ensures { λ r. ⌜ r ≡ self ⌝ }
     {
         let printable = n - self.unprintable.unprintable;
-        let accents = self.accents;
         let doubled = self.doubled;
-        let words = self.words;
-        let stops = self.stops;
         Detectors {
             symbols: TooManySymbolOrPunctuation {
                 characters: printable,
@@ -191,7 +220,10 @@ impl Detectors {
                 symbols: self.symbols.symbols,
                 last: self.symbols.last,
             },
-            accents,
+            accents: TooManyAccentuated {
+                characters: self.accents.characters,
+                accentuated: self.accents.accentuated,
+            },
             unprintable: Unprintable {
                 characters: n,
                 unprintable: self.unprintable.unprintable,
@@ -203,8 +235,11 @@ impl Detectors {
                 last: self.ranges.last,
             },
             doubled,
-            words,
-            stops,
+            words: self.words.unwatched(),
+            stops: CjkInvalidStop {
+                wrong: self.stops.wrong,
+                cjk: self.stops.cjk,
+            },
             archaic: ArchaicUpperLower {
                 characters: n,
                 since: self.archaic.since,

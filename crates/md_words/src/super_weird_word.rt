@@ -260,6 +260,26 @@ impl SuperWeirdWord {
         self.letters(f, m)
     }
 
+    // The same state, where no letter was watched and none had an accent. Only ASCII letters enter a word, and by the tables' rules they are Latin and have no accent: a scan that has
+    // it said so need not carry the two, nor the capitals, which are read for a watched word alone.
+    pub fn unwatched(self) -> SuperWeirdWord
+        requires { ⌜ inner.Unwatched self ⌝ }
+        ensures { λ r. ⌜ r ≡ self ⌝ }
+    {
+        SuperWeirdWord {
+            characters: self.characters,
+            words: self.words,
+            foreign: self.foreign,
+            spoilt: self.spoilt,
+            bad: self.bad,
+            watch: false,
+            accents: 0,
+            uppercase: self.uppercase,
+            length: self.length,
+            last: self.last,
+        }
+    }
+
     // The characters of bad words over those of all words.
     pub fn counts(self) -> Counts
         ensures { λ r. ⌜ r ≡ weird.counts self ⌝ }

@@ -4,18 +4,18 @@
 use Prim.Native.Nat.{ℕ, _+_, _≤_, _<_}
 use mathlib.Core.Path.{_≡_, refl, sym, ap, _∙_}
 use mathlib.Core.List.{List}
-use mathlib.Core.Bool.{true, false, not}
+use mathlib.Core.Bool.{true, false, not, _&&_, true≢false}
 use native.Mathlib.Omega.{arith}
 use lib.Dec.{eqb, lit<}
-use borrow.Author.Tests.{lt-ltb, le-ltb, le-leb}
+use borrow.Author.Tests.{lt-ltb, le-ltb, le-leb, not-true}
 use Rattle.base.proofs.Laws.First.{first-found}
-use Rattle.base.specs.Flags.{WHITESPACE, SEPARATOR, ASCII}
+use Rattle.base.specs.Flags.{has, WHITESPACE, SEPARATOR, ASCII, ASCII-ALPHABETIC, ASCII-GRAPHIC, ASCII-DIGIT, LATIN, ACCENTUATED}
 use Rattle.base.specs.FlagRule.{flagRule}
 use Rattle.base.specs.Limits.{BUILTIN-END, LAST-POINT, SURROGATE-FIRST, SURROGATE-LAST, LAST-RANGE, NEWLINE}
 use Rattle.base.specs.Tests.{scalar}
-use Rattle.base.proofs.Laws.Tests.{within-below, by-bool, split, and-yes}
+use Rattle.base.proofs.Laws.Tests.{within-below, by-bool, split, and-l, and-r, and-yes}
 use Rattle.class_builtin.proofs.Laws.Table.{entry-lawful, entry-range-small, newline-entry}
-use Rattle.class_records.specs.Records.{records, recordAt, noneOrScalar, goodTable, holds, holder}
+use Rattle.class_records.specs.Records.{records, recordAt, noAscii, noneOrScalar, goodTable, holds, holder}
 use Rattle.class_records.proofs.Laws.Records.{table-fields, held-past, held-scalar}
 use Rattle.classes.specs.Lookup.{orSelf, builtinClass, recordClass, lentClass, classOf}
 use Rattle.classes.specs.declared.Class.{Class}
@@ -45,6 +45,9 @@ pub record Lawful (p : ℕ) (c : Class) : Type 0 where
   pub range : c .range ≤ LAST-RANGE
   pub base : scalar (c .base) ≡ true
   pub lower : scalar (c .lower) ≡ true
+  -- "ASCII letters are LATIN and not ACCENTUATED"
+  pub latin : has (c .flags) ASCII-ALPHABETIC ≡ true → has (c .flags) LATIN ≡ true
+  pub plain : has (c .flags) ASCII-ALPHABETIC ≡ true → has (c .flags) ACCENTUATED ≡ false
 
 -- the character itself, or another scalar value
 self-scalar : (n p : ℕ) → scalar p ≡ true → (eqb n 0 ≡ false → scalar n ≡ true) → scalar (orSelf n p) ≡ true
@@ -69,7 +72,16 @@ builtin-lawful p h =
       range = entry-range-small p h;
       base = self-scalar _ p (builtin-scalar p h) (λ z. e .base);
       lower = self-scalar _ p (builtin-scalar p h) (λ z. e .lower);
+      latin = λ l. e .latin (sym (e .letter) ∙ l);
+      plain = λ l. e .plain (sym (e .letter) ∙ l);
     }
+
+-- the ASCII bits of a lent record are clear
+no-letter : (f : ℕ) → noAscii f ≡ true → has f ASCII-ALPHABETIC ≡ true → ⊥
+unfolding noAscii
+no-letter f h l =
+    let three = and-l (not (has f ASCII) && not (has f ASCII-ALPHABETIC)) (not (has f ASCII-GRAPHIC)) (and-l _ (not (has f ASCII-DIGIT)) h) in
+    true≢false (sym l ∙ not-true (has f ASCII-ALPHABETIC) (and-r (not (has f ASCII)) (not (has f ASCII-ALPHABETIC)) three))
 
 module _ (t : List ℕ) (g : goodTable t ≡ true) (p : ℕ) where
   found : holder t p < records t → holds t p (holder t p) ≡ true
@@ -87,6 +99,8 @@ module _ (t : List ℕ) (g : goodTable t ≡ true) (p : ℕ) where
         range = f .range;
         base = self-scalar _ p s (none-or-scalar _ (f .base));
         lower = self-scalar _ p s (none-or-scalar _ (f .lower));
+        latin = λ l. absurd (no-letter _ (f .ascii) l);
+        plain = λ l. absurd (no-letter _ (f .ascii) l);
       }
 
   -- whatever the lookup finds is lawful

@@ -23,7 +23,7 @@ use Rattle.classes.proofs.Laws.Lookup.{class-builtin, class-lent, lent-none, cl
 use Rattle.md_counts.specs.CjkInvalidStop.{wrongStop, STOP-UP, STOP-DOWN}
 use Rattle.md_eight.specs.declared.Detectors.{Detectors}
 use Rattle.md_eight.specs.Detectors.{feed, lastRange}
-use Rattle.md_eight.specs.Inner.Detectors.{Room}
+use Rattle.md_eight.specs.Inner.Detectors.{Room, Slim}
 use Rattle.md_eight.specs.Inner.Runs.{isCased, isUncased, casedRun, uncasedRun, lowerClass, LOWER-FIRST, LOWER-LAST, BASIC-LATIN, SPACE, spaceClass}
 use Rattle.md_eight.proofs.Loops.Detectors.{within-room}
 use Rattle.md_eight.proofs.Laws.Runs.{cased-one, cased-more, cased-last, uncased-one, uncased-more, uncased-last, Settled, start-settled, feed-settled, lower-cased}
@@ -33,11 +33,11 @@ use Rattle.md.specs.declared.runs.Fed.{Fed}
 use Rattle.md_meaning.specs.Text.{charAt, total, checkpoint, period, SHORT-LENGTH, MIDDLE-LENGTH, SHORT-PERIOD, MIDDLE-PERIOD, LONG-PERIOD}
 use Rattle.md_meaning.specs.Scan.{fed, classIn, classAt, unclassed, stateAt}
 use Rattle.md.specs.Inner.Rest.{Past}
-use Rattle.md.specs.Inner.Runs.{Nearer, Piece, Run, Low, High, HeldAt, Lent, AlikeOf, LowerRun, Spaced, Before, Advanced}
+use Rattle.md.specs.Inner.Runs.{Nearer, Piece, Run, Low, High, HeldAt, Lent, AlikeOf, Spaced, Before, Advanced}
 use Rattle.md.proofs.Laws.Ascii.{lower-class, lower-stop, space-class}
 use Rattle.class_records.proofs.Laws.Records.{held-past}
 use Rattle.md.proofs.Laws.Rest.{held-class, holder-hold, holder-holds}
-use Rattle.md_meaning.proofs.Laws.Scan.{getD-any, is-classed, state-within, state-range, class-range}
+use Rattle.md_meaning.proofs.Laws.Scan.{getD-any, is-classed, state-within, state-range, state-slim, class-range}
 
 pub untrue : {A : Type 0} → false ≡ true → A
 untrue e = let z : _≡_ {A = ℕ} 0 1 = cc in absurd (omega arith)
@@ -238,14 +238,10 @@ uncased-class : (s : Detectors) (c d : Class) (m p : ℕ) (x y : Bool) → c .fl
 unfolding uncasedRun
 uncased-class s c d m p x y f r = rw (f, r)
 
--- a run of ASCII's lower-case letters, of what the step has read
-pub lower-made : (pairs text : List ℕ) (s : Detectors) (i next v : ℕ) (x y : Bool) (t : Detectors) → Run text LOWER-FIRST LOWER-LAST i next → v ≡ lastRange s
-    → x ≡ suspicious pairs v BASIC-LATIN → y ≡ suspicious pairs BASIC-LATIN BASIC-LATIN
-    → t ≡ casedRun s (lowerClass (getD text (next - 1) 0)) (next - i) (getD text (next - 1) 0) (getD text (next - 1) 0) x y
-    → LowerRun pairs text s i (record { state = t; next = next })
-lower-made pairs text s i next v x y t w ve xe ye te =
-    let d : getD text (next - 1) 0 ≡ charAt text (next - 1) = getD-any text (next - 1) 0 NEWLINE (omega (arith, w .begins, w .ends)) in
-    record { run = w; state = te ∙ rw (d, xe, ye, ve) }
+-- what the test for a lower-case letter says
+pub lower-told : (p : ℕ) → leb LOWER-FIRST p && leb p LOWER-LAST ≡ true → (LOWER-FIRST ≤ p) × (p ≤ LOWER-LAST)
+lower-told p e =
+    (leb-true LOWER-FIRST p (and-l (leb LOWER-FIRST p) (leb p LOWER-LAST) e), leb-true p LOWER-LAST (and-r (leb LOWER-FIRST p) (leb p LOWER-LAST) e))
 
 -- a step from i on, where the lookup found c
 module _ (classes pairs text : List ℕ) (s : Detectors) (c : Class) (i : ℕ) (b : Before classes pairs text s c i) where
@@ -365,37 +361,30 @@ module _ (classes pairs text : List ℕ) (s : Detectors) (c : Class) (i : ℕ) (
     pub lower-inside : i < length text
     lower-inside = before-inside (λ e. omega (arith, e, lo))
 
-    pub advanced-lower : (r : Fed) → LowerRun pairs text s i r → Advanced classes pairs text i r
-    unfolding classAt
-    advanced-lower r w =
-        advanced-cased (λ j. lowerClass (charAt text j)) (r .next - i - 1) (r .next) (omega (arith, w .run .begins))
-        (λ j a z. let low = from j a z in let high = to j a z in
-        class-builtin classes (charAt text j) (omega (arith, high)) ∙ ap At (lower-class (charAt text j) low high))
-        (λ j. refl)
-        (λ j. refl)
-        (λ j a z. lower-stop (charAt text j) (from j a z) (to j a z))
-        (w .run .quiet)
-        (w .run .ends)
-        (r .next - i) (r .next - 1) (charAt text (r .next - 1)) (omega (arith, w .run .begins)) (omega (arith, w .run .begins)) refl
-        (lowerClass (charAt text (r .next - 1))) refl refl
-        (charAt text (r .next - 1)) refl (lower-cased (charAt text i)) (r .state) (w .state)
-      where
-        from : (j : ℕ) → i ≤ j → j < r .next → LOWER-FIRST ≤ charAt text j
-        from j a z = split i j (λ m. w .run .least j m z) (λ m. let q : j ≡ i = omega (arith, a, m) in rw (q, ← before-point) lo)
+    -- a run of them, of what the step has read
+    module _ (next : ℕ) (w : Run text LOWER-FIRST LOWER-LAST i next) where
+      lower-from : (j : ℕ) → i ≤ j → j < next → LOWER-FIRST ≤ charAt text j
+      lower-from j a z = split i j (λ m. w .least j m z) (λ m. let q : j ≡ i = omega (arith, a, m) in rw (q, ← before-point) lo)
 
-        to : (j : ℕ) → i ≤ j → j < r .next → charAt text j ≤ LOWER-LAST
-        to j a z = split i j (λ m. w .run .most j m z) (λ m. let q : j ≡ i = omega (arith, a, m) in rw (q, ← before-point) hi)
+      lower-to : (j : ℕ) → i ≤ j → j < next → charAt text j ≤ LOWER-LAST
+      lower-to j a z = split i j (λ m. w .most j m z) (λ m. let q : j ≡ i = omega (arith, a, m) in rw (q, ← before-point) hi)
 
-  -- what the step's tests say
-  pub lower-step-inside : leb LOWER-FIRST (c .point) && leb (c .point) LOWER-LAST ≡ true → i < length text
-  lower-step-inside e =
-      lower-inside (leb-true LOWER-FIRST (c .point) (and-l (leb LOWER-FIRST (c .point)) (leb (c .point) LOWER-LAST) e))
-      (leb-true (c .point) LOWER-LAST (and-r (leb LOWER-FIRST (c .point)) (leb (c .point) LOWER-LAST) e))
-
-  pub lower-step : leb LOWER-FIRST (c .point) && leb (c .point) LOWER-LAST ≡ true → (r : Fed) → LowerRun pairs text s i r → Advanced classes pairs text i r
-  lower-step e =
-      advanced-lower (leb-true LOWER-FIRST (c .point) (and-l (leb LOWER-FIRST (c .point)) (leb (c .point) LOWER-LAST) e))
-      (leb-true (c .point) LOWER-LAST (and-r (leb LOWER-FIRST (c .point)) (leb (c .point) LOWER-LAST) e))
+      pub lower-step : (v : ℕ) (x y : Bool) → v ≡ lastRange s → x ≡ suspicious pairs v BASIC-LATIN → y ≡ suspicious pairs BASIC-LATIN BASIC-LATIN → (t : Detectors)
+          → t ≡ casedRun s (lowerClass (getD text (next - 1) 0)) (next - i) (getD text (next - 1) 0) (getD text (next - 1) 0) x y
+          → Advanced classes pairs text i (record { state = t; next = next })
+      unfolding classAt
+      lower-step v x y ve xe ye t te =
+          let d : getD text (next - 1) 0 ≡ charAt text (next - 1) = getD-any text (next - 1) 0 NEWLINE (omega (arith, w .begins, w .ends)) in
+          advanced-cased (λ j. lowerClass (charAt text j)) (next - i - 1) next (omega (arith, w .begins))
+          (λ j a z. class-builtin classes (charAt text j) (omega (arith, lower-to j a z)) ∙ ap At (lower-class (charAt text j) (lower-from j a z) (lower-to j a z)))
+          (λ j. refl)
+          (λ j. refl)
+          (λ j a z. lower-stop (charAt text j) (lower-from j a z) (lower-to j a z))
+          (w .quiet)
+          (w .ends)
+          (next - i) (next - 1) (charAt text (next - 1)) (omega (arith, w .begins)) (omega (arith, w .begins)) refl
+          (lowerClass (charAt text (next - 1))) refl refl
+          (charAt text (next - 1)) refl (lower-cased (charAt text i)) t (te ∙ rw (d, xe, ye, ve))
 
   -- where a run may be, that of a lent record
   pub lent-step : (at : ℕ) → HeldAt classes (c .point) at → (g w : Bool) → (g ≡ true → BUILTIN-END ≤ c .point) → w ≡ wrongStop (c .point) → g && not w ≡ true
@@ -511,6 +500,16 @@ module _ (classes pairs text : List ℕ) (i : ℕ) (r : Fed) (g : Tables classes
   pub advanced-spaced : (t : Detectors) → t ≡ feed (r .state) spaceClass false → Advanced classes pairs text i (record { state = t; next = r .next + 1 })
   advanced-spaced t e =
       advanced-both classes pairs text i r _ a (p .quiet) (advanced-space classes pairs text (r .state) spaceClass (r .next) spaced-before t refl e)
+
+-- a step whose state is carried on as t
+pub advanced-as : (classes pairs text : List ℕ) (i : ℕ) (r : Fed) → Advanced classes pairs text i r → (t : Detectors) → t ≡ r .state
+    → Advanced classes pairs text i (record { state = t; next = r .next })
+advanced-as classes pairs text i r a t e =
+    record { begins = a .begins; ends = a .ends; state = e ∙ a .state; classed = a .classed; quiet = a .quiet }
+
+-- no word is watched after a step
+pub advanced-slim : (classes pairs text : List ℕ) (i : ℕ) (r : Fed) → Tables classes pairs → Advanced classes pairs text i r → Slim (r .state)
+advanced-slim classes pairs text i r g a = rw (a .state) (state-slim classes pairs text (g .good) (r .next))
 
 -- what the tests for it say
 pub spaced-is : (text : List ℕ) (i : ℕ) (q : Bool) → q ≡ checkpoint (length text) (i - 1) → q ≡ false → i < length text → eqb (getD text i 0) SPACE ≡ true → Spaced text i

@@ -10,11 +10,9 @@ use Rattle.class_records.specs.Records.{records, recordAt, goodTable, holder}
 use Rattle.classes.specs.declared.Class.{Class}
 use Rattle.classes.specs.declared.Found.the-variants.{At}
 use Rattle.classes.specs.Inner.Tables.{Tables}
-use Rattle.classes.specs.Pairs.{suspicious}
 use Rattle.md_counts.specs.CjkInvalidStop.{wrongStop, STOP-UP, STOP-DOWN}
 use Rattle.md_eight.specs.declared.Detectors.{Detectors}
-use Rattle.md_eight.specs.Detectors.{lastRange}
-use Rattle.md_eight.specs.Inner.Runs.{casedRun, lowerClass, LOWER-FIRST, LOWER-LAST, BASIC-LATIN, SPACE}
+use Rattle.md_eight.specs.Inner.Runs.{SPACE}
 use Rattle.md.specs.declared.runs.Alike.{Alike}
 use Rattle.md.specs.declared.runs.Fed.{Fed}
 use Rattle.md.specs.declared.scan.Looked.{Looked}
@@ -72,13 +70,6 @@ pub record AlikeOf (classes : List ℕ) (p : ℕ) (a : Alike) : Type 0 where
   pub from : (q : ℕ) → a .low ≤ q → recordAt classes (holder classes p) .first ≤ q
   pub to : (q : ℕ) → q ≤ a .high → q ≤ recordAt classes (holder classes p) .last
   pub right : (q : ℕ) → a .low ≤ q → q ≤ a .high → wrongStop q ≡ false
-
--- a run of ASCII's lower-case letters behind i, and what the eight come to with the one at i
-pub record LowerRun (pairs text : List ℕ) (s : Detectors) (i : ℕ) (r : Fed) : Type 0 where
-  pub run : Run text LOWER-FIRST LOWER-LAST i (r .next)
-  pub state : r .state
-      ≡ casedRun s (lowerClass (charAt text (r .next - 1))) (r .next - i) (charAt text (r .next - 1)) (charAt text (r .next - 1))
-      (suspicious pairs (lastRange s) BASIC-LATIN) (suspicious pairs BASIC-LATIN BASIC-LATIN)
 
 -- a space stands at i, and no checkpoint before it
 pub record Spaced (text : List ℕ) (i : ℕ) : Type 0 where

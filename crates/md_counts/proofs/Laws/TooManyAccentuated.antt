@@ -3,7 +3,7 @@
 -- Assumes nothing.
 use Prim.Native.Nat.{ℕ, _+_, _*_, _≤_}
 use mathlib.Core.Path.{_≡_, refl}
-use mathlib.Core.Bool.{Bool, true, false, cond}
+use mathlib.Core.Bool.{Bool, true, false, cond, _&&_}
 use native.Mathlib.Nat.{add-zero, add-assoc}
 use native.Mathlib.Omega.{arith}
 use Rattle.base.specs.Flags.{has, ALPHABETIC, ACCENTUATED}
@@ -64,6 +64,14 @@ module _ (s : TooManyAccentuated) (c : Class) where
   pub run-more : (m : ℕ) → feedRun s (c .flags) (m + 2) ≡ feed (feedRun s (c .flags) (m + 1)) c
   unfolding feedRun countedRun feed counted
   run-more m = by-bool (has (c .flags) ALPHABETIC) (λ p. simp (p, more, add-assoc)) (λ p. simp p)
+
+-- without a branch: what is no letter adds 0 to either count
+pub added : (s : TooManyAccentuated) (f m : ℕ)
+    → _≡_ {A = TooManyAccentuated}
+    (record { characters = s .characters + cond (has f ALPHABETIC) m 0; accentuated = s .accentuated + cond (has f ALPHABETIC && has f ACCENTUATED) m 0 })
+    (feedRun s f m)
+unfolding feedRun countedRun
+added s f m = by-bool (has f ALPHABETIC) (λ p. simp p) (λ p. simp (p, add-zero))
 
 -- a character that is no letter is passed over
 pub feed-passes : (s : TooManyAccentuated) (c : Class) → has (c .flags) ALPHABETIC ≡ false → feed s c ≡ s

@@ -1,11 +1,12 @@
 -- What feeding comes to in the four counts that the number of characters tells (`FedCount`): unprintables and archaic case count every character, symbols
--- and ranges every printable one. So a state whose four are made of that number is the same state (`recounted-same`).
+-- and ranges every printable one. So a state whose four are made of that number is the same state (`recounted-same`). And no word is watched where the tables' rules hold
+-- of each class (`feed-slim`).
 -- Assumes nothing.
 use Prim.Native.Nat.{ℕ, _+_, _-_}
 use mathlib.Core.Path.{_≡_, refl, sym, ap, _∙_}
-use mathlib.Core.Bool.{Bool}
+use mathlib.Core.Bool.{Bool, true, false}
 use native.Mathlib.Omega.{arith}
-use Rattle.base.specs.Flags.{has, UNPRINTABLE}
+use Rattle.base.specs.Flags.{has, UNPRINTABLE, ASCII-ALPHABETIC, LATIN, ACCENTUATED}
 use Rattle.base.specs.Numbers.{bump}
 use Rattle.base.proofs.Laws.Tests.{cond-both, by-bool}
 use Rattle.classes.specs.declared.Class.{Class}
@@ -15,10 +16,12 @@ use Rattle.md_words.specs.declared.archaic_upper_lower.ArchaicUpperLower.{Archa
 use Rattle.md_counts.specs.TooManySymbolOrPunctuation as symbols
 use Rattle.md_counts.specs.Unprintable as unprintable
 use Rattle.md_neighbours.specs.SuspiciousRange as ranges
+use Rattle.md_words.specs.declared.super_weird_word.SuperWeirdWord.{SuperWeirdWord}
 use Rattle.md_words.specs.ArchaicUpperLower as archaic
+use Rattle.md_words.proofs.Laws.SuperWeirdWord.{start-unwatched, feed-unwatched}
 use Rattle.md_eight.specs.declared.Detectors.{Detectors}
 use Rattle.md_eight.specs.Detectors.{start, feed}
-use Rattle.md_eight.specs.Inner.Detectors.{FedCount}
+use Rattle.md_eight.specs.Inner.Detectors.{FedCount, Slim}
 
 pub start-fed-count : FedCount start 0
 unfolding start
@@ -52,17 +55,44 @@ feed-fed-count s n k c x =
       ranges = ranges-count (s .ranges) c x (s .unprintable .unprintable) n (k .ranges);
     }
 
+pub start-slim : Slim start
+unfolding start
+start-slim = start-unwatched
+
+pub feed-slim : (s : Detectors) → Slim s → (c : Class) (x : Bool) → (has (c .flags) ASCII-ALPHABETIC ≡ true → has (c .flags) LATIN ≡ true)
+    → (has (c .flags) ASCII-ALPHABETIC ≡ true → has (c .flags) ACCENTUATED ≡ false)
+    → Slim (feed s c x)
+unfolding feed
+feed-slim s u c x l a = feed-unwatched (s .words) u c l a
+
 module _ (s : Detectors) where
+  -- the state with these words
+  abbrev worded : SuperWeirdWord → Detectors
+  worded w =
+      record {
+        symbols = s .symbols;
+        accents = s .accents;
+        unprintable = s .unprintable;
+        ranges = s .ranges;
+        doubled = s .doubled;
+        words = w;
+        stops = s .stops;
+        archaic = s .archaic;
+      }
+
+  pub slimmed-same : (w : SuperWeirdWord) → w ≡ s .words → worded w ≡ s
+  slimmed-same w e = ap worded e
+
   -- the state with these four counts
-  abbrev made : ℕ → ℕ → ℕ → ℕ → Detectors
-  made a b c d =
+  abbrev made : ℕ → ℕ → ℕ → ℕ → SuperWeirdWord → Detectors
+  made a b c d w =
       record {
         symbols = record { characters = a; punctuation = s .symbols .punctuation; symbols = s .symbols .symbols; last = s .symbols .last };
         accents = s .accents;
         unprintable = record { characters = b; unprintable = s .unprintable .unprintable };
         ranges = record { characters = c; suspicious = s .ranges .suspicious; seen = s .ranges .seen; last = s .ranges .last };
         doubled = s .doubled;
-        words = s .words;
+        words = w;
         stops = s .stops;
         archaic =
             record {
@@ -76,11 +106,12 @@ module _ (s : Detectors) where
             };
       }
 
-  pub recounted-same : (n p : ℕ) → FedCount s n → p ≡ n - s .unprintable .unprintable → made p n p n ≡ s
-  recounted-same n p k e =
+  pub recounted-same : (n p : ℕ) → FedCount s n → p ≡ n - s .unprintable .unprintable → (w : SuperWeirdWord) → w ≡ s .words → made p n p n w ≡ s
+  recounted-same n p k e w we =
       let a : p ≡ s .symbols .characters = omega (arith, e, k .symbols) in
       let c : p ≡ s .ranges .characters = omega (arith, e, k .ranges) in
-      ap (λ (x : ℕ). made x n p n) a
-      ∙ ap (λ (x : ℕ). made (s .symbols .characters) x p n) (sym (k .unprintable))
-      ∙ ap (λ (x : ℕ). made (s .symbols .characters) (s .unprintable .characters) x n) c
-      ∙ ap (λ (x : ℕ). made (s .symbols .characters) (s .unprintable .characters) (s .ranges .characters) x) (sym (k .archaic))
+      ap (λ (x : ℕ). made x n p n w) a
+      ∙ ap (λ (x : ℕ). made (s .symbols .characters) x p n w) (sym (k .unprintable))
+      ∙ ap (λ (x : ℕ). made (s .symbols .characters) (s .unprintable .characters) x n w) c
+      ∙ ap (λ (x : ℕ). made (s .symbols .characters) (s .unprintable .characters) (s .ranges .characters) x w) (sym (k .archaic))
+      ∙ ap (λ (x : SuperWeirdWord). made (s .symbols .characters) (s .unprintable .characters) (s .ranges .characters) (s .archaic .characters) x) we

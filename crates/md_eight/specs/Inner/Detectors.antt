@@ -1,4 +1,4 @@
--- Words of inner contracts, beside Detectors: `Room`, `Countable`, `FedCount`. No public promise rests on them.
+-- Words of inner contracts, beside Detectors: `Room`, `Countable`, `FedCount`, `Slim`. No public promise rests on them.
 -- Assumes nothing.
 use Prim.Native.Nat.{ℕ, _+_}
 use mathlib.Core.Path.{_≡_}
@@ -35,3 +35,7 @@ pub record FedCount (s : Detectors) (n : ℕ) : Type 0 where
   pub archaic : s .archaic .characters ≡ n
   pub symbols : s .symbols .characters + s .unprintable .unprintable ≡ n
   pub ranges : s .ranges .characters + s .unprintable .unprintable ≡ n
+
+-- no word is watched: so it is after characters whose ASCII letters are Latin and have no accent
+abbrev pub Slim : Detectors → Type 0
+Slim s = words.Unwatched (s .words)

@@ -2,9 +2,9 @@
 -- is a cause (`unless-allowed`, `unless-refused`, `unless-at`, `unless-score`).
 -- Assumes nothing.
 use Prim.Native.Nat.{ℕ, zero, suc, _+_, _≤_, _<_}
-use mathlib.Core.Path.{_≡_, refl}
+use mathlib.Core.Path.{_≡_, refl, sym}
 use mathlib.Core.List.{List, [], _∷_}
-use mathlib.Core.Bool.{Bool, true, false}
+use mathlib.Core.Bool.{Bool, true, false, true≢false}
 use native.Mathlib.Nat.{le-of-suc-le-suc, not-suc-le-zero}
 use native.Mathlib.Numerals.{add-one}
 use native.Mathlib.Omega.{arith}
@@ -14,17 +14,19 @@ use Rattle.base.specs.declared.Cause.{Cause}
 use Rattle.base.specs.declared.Cause.the-variants.{Allowed, Refused}
 use Rattle.base.specs.declared.Refusal.{Refusal}
 use Rattle.base.specs.Causes.{refusedAt}
+use Rattle.base.specs.Flags.{has, ASCII-ALPHABETIC, LATIN, ACCENTUATED}
 use Rattle.base.specs.Limits.{LAST-RANGE}
 use Rattle.classes.specs.declared.Class.{Class}
 use Rattle.classes.specs.declared.Found.{Found}
 use Rattle.classes.specs.declared.Found.the-variants.{At, Nothing}
-use Rattle.classes.proofs.Laws.Lookup.{class-lawful}
+use Rattle.classes.specs.Lookup.{classOf}
+use Rattle.classes.proofs.Laws.Lookup.{Lawful, class-lawful}
 use Rattle.class_records.specs.Records.{goodTable}
 use Rattle.ratio.specs.declared.EightCounts.{EightCounts}
 use Rattle.md_eight.specs.declared.Detectors.{Detectors}
 use Rattle.md_eight.specs.Detectors.{start, counts, lastRange}
-use Rattle.md_eight.specs.Inner.Detectors.{FedCount}
-use Rattle.md_eight.proofs.Laws.Recounted.{start-fed-count, feed-fed-count}
+use Rattle.md_eight.specs.Inner.Detectors.{FedCount, Slim}
+use Rattle.md_eight.proofs.Laws.Recounted.{start-fed-count, feed-fed-count, start-slim, feed-slim}
 use Rattle.md_eight.proofs.Loops.Detectors.{Within, start-within, feed-within, start-last, feed-last}
 use Rattle.md_meaning.specs.declared.Limit.{Limit}
 use Rattle.md_meaning.specs.declared.Limit.the-variants.{Threshold, Never}
@@ -88,6 +90,26 @@ module _ (classes pairs text : List ℕ) where
   in-range : (p : ℕ) (f : Found) → ((c : Class) → f ≡ At c → c .range ≤ LAST-RANGE) → classIn p f .range ≤ LAST-RANGE
   in-range p (At c) r = r c refl
   in-range p Nothing r = omega arith
+
+  latin-in : (p : ℕ) (f : Found) → ((c : Class) → f ≡ At c → Lawful p c) → has (classIn p f .flags) ASCII-ALPHABETIC ≡ true → has (classIn p f .flags) LATIN ≡ true
+  unfolding has
+  latin-in p (At c) r h = r c refl .latin h
+  latin-in p Nothing r h = absurd (true≢false (sym h))
+
+  plain-in : (p : ℕ) (f : Found) → ((c : Class) → f ≡ At c → Lawful p c) → has (classIn p f .flags) ASCII-ALPHABETIC ≡ true → has (classIn p f .flags) ACCENTUATED ≡ false
+  unfolding has
+  plain-in p (At c) r h = r c refl .plain h
+  plain-in p Nothing r h = absurd (true≢false (sym h))
+
+  -- over a good table no word is watched: ASCII letters alone enter one, and they are Latin and have no accent
+  pub state-slim : goodTable classes ≡ true → (i : ℕ) → Slim (stateAt classes pairs text i)
+  unfolding stateAt fed classAt
+  state-slim g zero = start-slim
+  state-slim g (suc i) =
+      let lawful = class-lawful classes g (charAt text i) in
+      feed-slim (stateAt classes pairs text i) (state-slim g i) _ _
+      (latin-in (charAt text i) (classOf classes (charAt text i)) lawful)
+      (plain-in (charAt text i) (classOf classes (charAt text i)) lawful)
 
   -- over a good table the range that the ranges detector remembers is one that the pair table knows
   pub state-range : goodTable classes ≡ true → (i : ℕ) → lastRange (stateAt classes pairs text i) ≤ LAST-RANGE

@@ -1,13 +1,14 @@
 -- How large the counts of weird words can be: after k characters at most k stand in words, and those of bad words are among them. So a
--- step has room, the counts are small, and its ratio is at most 1. A run is the same as feeding its characters one by one (`run-one`, `run-more`).
+-- step has room, the counts are small, and its ratio is at most 1. A run is the same as feeding its characters one by one (`run-one`, `run-more`). Where ASCII
+-- letters are Latin and have no accent, no word is watched and none has accents (`feed-unwatched`).
 -- Assumes nothing.
 use Prim.Native.Nat.{ℕ, _+_, _*_, _≤_}
-use mathlib.Core.Path.{_≡_, refl}
+use mathlib.Core.Path.{_≡_, refl, sym, ap, _∙_}
 use mathlib.Core.Bool.{Bool, true, false, cond, _||_, and-false, or-assoc, or-self}
 use native.Mathlib.Nat.{add-zero, add-assoc}
 use native.Mathlib.Omega.{arith}
 use lib.Dec.{eqb}
-use Rattle.base.specs.Flags.{has, SYMBOL, ASCII-ALPHABETIC, ACCENTUATED, UPPERCASE}
+use Rattle.base.specs.Flags.{has, SYMBOL, ASCII-ALPHABETIC, LATIN, ACCENTUATED, UPPERCASE}
 use Rattle.base.specs.Inner.Limits.{LARGEST}
 use Rattle.base.specs.Numbers.{bump}
 use Rattle.base.proofs.Laws.Numbers.{bump-small}
@@ -16,8 +17,8 @@ use Rattle.classes.specs.declared.Class.{Class}
 use Rattle.ratio.specs.Inner.Fraction.{Small}
 use Rattle.ratio.specs.Fraction.{shareOf}
 use Rattle.md_words.specs.declared.super_weird_word.SuperWeirdWord.{SuperWeirdWord}
-use Rattle.md_words.specs.SuperWeirdWord.{start, closes, counted, letter, symbol, accented, capital, long, close, inside, feed, counts}
-use Rattle.md_words.specs.Inner.SuperWeirdWord.{Room, letters, feedRun}
+use Rattle.md_words.specs.SuperWeirdWord.{start, watched, closes, counted, letter, symbol, accented, capital, long, close, inside, feed, counts}
+use Rattle.md_words.specs.Inner.SuperWeirdWord.{Room, Unwatched, letters, feedRun}
 use Rattle.md_words.proofs.Laws.ArchaicUpperLower.{cond-alike}
 
 -- what holds after k characters
@@ -164,3 +165,57 @@ module _ (s : SuperWeirdWord) (c : Class) (e : closes (c .flags) ≡ false) (y :
       by-bool (has (c .flags) ASCII-ALPHABETIC)
       (λ p. simp (p, feed-letter (letters s (c .flags) (m + 1)) c p, letters-more s (c .flags) m))
       (λ p. simp (p, feed-passes p))
+
+pub start-unwatched : Unwatched start
+start-unwatched = record { watch = refl; accents = refl }
+
+-- a Latin letter without accent makes no word foreign
+not-watched : (f : ℕ) → has f LATIN ≡ true → has f ACCENTUATED ≡ false → watched f ≡ false
+unfolding watched
+not-watched f l a = rw (l, a)
+
+module _ (s : SuperWeirdWord) (u : Unwatched s) where
+  letter-unwatched : (f : ℕ) → has f LATIN ≡ true → has f ACCENTUATED ≡ false → Unwatched (letter s f)
+  unfolding letter
+  letter-unwatched f l a = record { watch = rw (u .watch, not-watched f l a); accents = rw (u .accents, a) }
+
+  symbol-unwatched : (f : ℕ) → Unwatched (symbol s f)
+  unfolding symbol
+  symbol-unwatched f = record { watch = u .watch; accents = u .accents }
+
+  close-unwatched : Unwatched (close s)
+  unfolding close
+  close-unwatched = record { watch = refl; accents = refl }
+
+  inside-unwatched : (f : ℕ) → Unwatched (inside s f)
+  unfolding inside
+  inside-unwatched f =
+      cond-both Unwatched (closes f) _ _ close-unwatched (cond-both Unwatched (counted f) _ _ (symbol-unwatched f) u)
+
+  pub feed-unwatched : (c : Class) → (has (c .flags) ASCII-ALPHABETIC ≡ true → has (c .flags) LATIN ≡ true)
+      → (has (c .flags) ASCII-ALPHABETIC ≡ true → has (c .flags) ACCENTUATED ≡ false)
+      → Unwatched (feed s c)
+  unfolding feed
+  feed-unwatched c l a =
+      by-bool (has (c .flags) ASCII-ALPHABETIC)
+      (λ e. rw e (letter-unwatched (c .flags) (l e) (a e)))
+      (λ e. rw e (cond-both Unwatched (eqb (s .length) 0) _ _ u (inside-unwatched (c .flags))))
+
+  -- so the state is as it is where the two are told
+  abbrev told : Bool → ℕ → SuperWeirdWord
+  told b n =
+      record {
+        characters = s .characters;
+        words = s .words;
+        foreign = s .foreign;
+        spoilt = s .spoilt;
+        bad = s .bad;
+        watch = b;
+        accents = n;
+        uppercase = s .uppercase;
+        length = s .length;
+        last = s .last;
+      }
+
+  pub unwatched-same : told false 0 ≡ s
+  unwatched-same = ap (λ (b : Bool). told b 0) (sym (u .watch)) ∙ ap (λ (n : ℕ). told (s .watch) n) (sym (u .accents))

@@ -1,7 +1,8 @@
--- Words of inner contracts, beside SuperWeirdWord: `Room`, and what a run of characters with the same flags comes to. No public promise rests on them.
+-- Words of inner contracts, beside SuperWeirdWord: `Room`, `Unwatched`, and what a run of characters with the same flags comes to. No public promise rests on them.
 -- Assumes nothing.
 use Prim.Native.Nat.{ℕ, _+_, _≤_}
-use mathlib.Core.Bool.{cond, _||_}
+use mathlib.Core.Path.{_≡_}
+use mathlib.Core.Bool.{false, cond, _||_}
 use Rattle.base.specs.Flags.{has, ASCII-ALPHABETIC, ACCENTUATED, UPPERCASE}
 use Rattle.ratio.specs.Inner.Fraction.{MOST-NUM}
 use Rattle.md_words.specs.declared.super_weird_word.SuperWeirdWord.{SuperWeirdWord}
@@ -16,6 +17,11 @@ pub record Room (s : SuperWeirdWord) : Type 0 where
   pub accents : s .accents ≤ MOST-NUM
   pub uppercase : s .uppercase ≤ MOST-NUM
   pub length : s .length ≤ MOST-NUM
+
+-- no letter has made the open word foreign, and none of its letters has an accent: so it is over a table whose ASCII letters are Latin and have none
+pub record Unwatched (s : SuperWeirdWord) : Type 0 where
+  pub watch : s .watch ≡ false
+  pub accents : s .accents ≡ 0
 
 -- m letters enter the word, at least one
 unfoldable pub letters : SuperWeirdWord → ℕ → ℕ → SuperWeirdWord

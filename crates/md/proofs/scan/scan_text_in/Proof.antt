@@ -4,7 +4,7 @@ use Prim.Native.Nat.{_-_}
 use mathlib.Core.Path.{sym, _∙_}
 use native.Mathlib.Omega.{arith}
 use Rattle.md.proofs.Loops.Going.{Going, going-start, going-before, going-countable, going-missing, fed-countable, fed-counted, going-on, going-stopped, going-ended}
-use Rattle.md.proofs.Laws.Runs.{before-looked}
+use Rattle.md.proofs.Laws.Runs.{before-looked, advanced-slim}
 use Rattle.md_meaning.proofs.Laws.Scan.{answered-state}
 use borrow.Author.Needs.{needs}
 use Rattle.md.proofs.scan.scan_text_in.Statement.{statement}
@@ -71,7 +71,9 @@ cast-recounted c =
 recounted-requires : tie.Need-recounted-requires Inv-loop μ-loop
 recounted-requires c κs =
     let at-loop = c .before .before .before .before .before .before .before .before .loop in
-    fed-counted _ _ _ _ (at-loop .inv) _ (c .before .fed-run .ensures)
+    let asked = c .before .before .before .before .before .before .before .before .before .before .before .before .before .pre in
+    let went = c .before .fed-run .ensures in
+    (fed-counted _ _ _ _ (at-loop .inv) _ went, advanced-slim _ _ _ _ _ (asked .tables) went)
 
 sub-is-over : tie.Need-sub-is-over Inv-loop μ-loop
 sub-is-over c = omega (arith, c .before .before .fed-run .ensures .begins)
