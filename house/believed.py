@@ -61,7 +61,7 @@ STATEMENTS = [
     ("md_report", "Report", "lines-add-up"),  # and that sum with the refused lines is the number of lines given
     ("md_report", "Report", "numbers-add-up"),  # the lines refused with each number add up to the refused
     ("md_report", "Longest", "report-fits"),  # no text of a month is longer than LONGEST-REPORT
-    ("cd_merge", "Merge", "means-between"),  # 02 [14]: each mean, rounding included, lies between 0 and 1
+    ("cd_merge_meaning", "Merge", "means-between"),  # 02 [14]: each mean, rounding included, lies between 0 and 1
 ]
 
 

@@ -13,9 +13,9 @@ use lib.Ieee.{Float, nan, inf, fin, binary32, ofBits, isNan, nanBits, le}
 use lib.Ieee.Bits.{nanBits-is, nanBits-above}
 use borrow.Author.Tests.{lt-ltb, le-ltb, ltb-false, eqb-true, not-false}
 use Rattle.base.proofs.Laws.First.{first-before}
-use Rattle.cd_merge.specs.Entries.{entries, scoreAt}
-use Rattle.cd_merge.specs.Answer.{MOST-RANKINGS, LONGEST-RANKING, over, total, unfit, isScore, firstBad}
-use Rattle.cd_merge.specs.Inner.Good.{MOST-ENTRIES, Fit, Good}
+use Rattle.cd_merge_meaning.specs.Entries.{entries, scoreAt}
+use Rattle.cd_merge_meaning.specs.Answer.{MOST-RANKINGS, LONGEST-RANKING, over, total, unfit, isScore, firstBad}
+use Rattle.cd_merge_meaning.specs.Inner.Good.{MOST-ENTRIES, Fit, Good}
 
 -- ---- scores
 abbrev INFINITY : ℕ

@@ -7,9 +7,9 @@ use mathlib.Core.Bool.{true, false}
 use mathlib.Core.List.{List}
 use lib.ListN.{length}
 use Rattle.base.specs.Counted.{lentAfter}
-use Rattle.cd_merge.specs.Entries.{entries, scoreAt}
-use Rattle.cd_merge.specs.Merge.{mergedWords}
-use Rattle.cd_merge.specs.Answer.{isScore, unfit, noRoom}
+use Rattle.cd_merge_meaning.specs.Entries.{entries, scoreAt}
+use Rattle.cd_merge_meaning.specs.Merge.{mergedWords}
+use Rattle.cd_merge_meaning.specs.Answer.{isScore, unfit, noRoom}
 
 -- entries of 64 rankings of 63
 abbrev pub MOST-ENTRIES : ℕ

@@ -30,11 +30,11 @@ use Rattle.ratio.proofs.Laws.Grid.{grid-whole}
 use Rattle.ratio.proofs.Laws.Once.{Once}
 use Rattle.ratio.proofs.Laws.Operations.{add-at, div-at}
 use Rattle.ratio.proofs.Laws.Parts.{parts-whole}
-use Rattle.cd_merge.specs.Entries.{entries, languageAt, scoreAt}
-use Rattle.cd_merge.specs.Merge.{sumOf, countOf, mean, meanAt}
-use Rattle.cd_merge.specs.Answer.{isScore}
-use Rattle.cd_merge.specs.Inner.Good.{Good}
-use Rattle.cd_merge.proofs.Laws.Check.{score-nan}
+use Rattle.cd_merge_meaning.specs.Entries.{entries, languageAt, scoreAt}
+use Rattle.cd_merge_meaning.specs.Merge.{sumOf, countOf, mean, meanAt}
+use Rattle.cd_merge_meaning.specs.Answer.{isScore}
+use Rattle.cd_merge_meaning.specs.Inner.Good.{Good}
+use Rattle.cd_merge_meaning.proofs.Laws.Check.{score-nan}
 
 -- ---- numbers, with l parts to one
 few : (w v k l : ℕ) → Once w v → k ≤ 2 ^ 24 → v ≤ k * l → w ≤ 2 ^ 25 * l

@@ -15,8 +15,8 @@ use Rattle.base.specs.Counted.{countUnless, lentAfter}
 use Rattle.base.specs.First.{first}
 use Rattle.base.specs.Refusals.{NO-ROOM, NOT-FINITE, BAD-LENGTHS}
 use Rattle.ratio.specs.Rounded.{ZERO}
-use Rattle.cd_merge.specs.Entries.{entriesIn, entries, scoreAt}
-use Rattle.cd_merge.specs.Merge.{firsts, merged, mergedWords}
+use Rattle.cd_merge_meaning.specs.Entries.{entriesIn, entries, scoreAt}
+use Rattle.cd_merge_meaning.specs.Merge.{firsts, merged, mergedWords}
 
 -- "up to 64 earlier rankings"
 abbrev pub MOST-RANKINGS : ℕ

@@ -13,7 +13,7 @@ use Rattle.ratio.specs.Rounded.{ZERO, _⊕_, bitsOf}
 use Rattle.cd_order.specs.Chosen.{passing}
 use Rattle.cd_order.specs.Sorting.{inOrder}
 use Rattle.cd_ranking.specs.Ranking.{standsBefore}
-use Rattle.cd_merge.specs.Entries.{entries, languageAt, scoreAt}
+use Rattle.cd_merge_meaning.specs.Entries.{entries, languageAt, scoreAt}
 
 -- "the f32 sum of its scores, in the given order starting from +0.0": of those in the first n entries, each addition rounded once
 unfoldable pub sumOf : List ℕ → ℕ → ℕ → Float

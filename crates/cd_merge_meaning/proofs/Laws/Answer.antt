@@ -18,11 +18,11 @@ use Rattle.base.specs.Put.{put}
 use Rattle.base.specs.Refusals.{NO-ROOM, NOT-FINITE, BAD-LENGTHS}
 use Rattle.base.proofs.Laws.Causes.{given-yes, free-given, given-free, first-given, first-passed, first-free}
 use Rattle.base.proofs.Laws.Counted.{count-allowed, counted-allowed, counted-at, after-allowed, after-refused}
-use Rattle.cd_merge.specs.Entries.{entriesIn, entries}
-use Rattle.cd_merge.specs.Merge.{firsts, merged, mergedWords}
-use Rattle.cd_merge.specs.Answer.{unfit, badLengths, firstBad, badScore, noRoom, mergeCauses, mergeAnswer, mergeInto}
-use Rattle.cd_merge.specs.Inner.Good.{Fit, Good}
-use Rattle.cd_merge.proofs.Laws.Check.{fit-good}
+use Rattle.cd_merge_meaning.specs.Entries.{entriesIn, entries}
+use Rattle.cd_merge_meaning.specs.Merge.{firsts, merged, mergedWords}
+use Rattle.cd_merge_meaning.specs.Answer.{unfit, badLengths, firstBad, badScore, noRoom, mergeCauses, mergeAnswer, mergeInto}
+use Rattle.cd_merge_meaning.specs.Inner.Good.{Fit, Good}
+use Rattle.cd_merge_meaning.proofs.Laws.Check.{fit-good}
 
 -- what a call with this cause answers and leaves
 abbrev Ends : Cause → List ℕ → List ℕ → Counted → List ℕ → Type 0

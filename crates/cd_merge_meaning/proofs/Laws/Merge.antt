@@ -27,14 +27,14 @@ use Rattle.cd_order.proofs.Laws.Sorting.{order-in, order-all}
 use Rattle.cd_best.proofs.Laws.BitsOrder.{lt-once}
 use Rattle.cd_ranking.specs.Ranking.{standsBefore}
 use Rattle.cd_ranking.proofs.Laws.Ranking.{Pairs}
-use Rattle.cd_merge.specs.Entries.{entries, languageAt}
-use Rattle.cd_merge.specs.Merge.{isFirst, firsts, meanAt, merged}
-use Rattle.cd_merge.specs.Answer.{isScore, mergeAnswer}
-use Rattle.cd_merge.specs.Inner.Good.{Good}
-use Rattle.cd_merge.specs.Inner.Keys.{keyAt}
-use Rattle.cd_merge.proofs.Laws.Means.{mean-plain, mean-single, mean-score}
-use Rattle.cd_merge.proofs.Laws.Answer.{accepted-good}
-use Rattle.cd_merge.proofs.Laws.Keys.{key-before, merged-in, keys-merge}
+use Rattle.cd_merge_meaning.specs.Entries.{entries, languageAt}
+use Rattle.cd_merge_meaning.specs.Merge.{isFirst, firsts, meanAt, merged}
+use Rattle.cd_merge_meaning.specs.Answer.{isScore, mergeAnswer}
+use Rattle.cd_merge_meaning.specs.Inner.Good.{Good}
+use Rattle.cd_merge_meaning.specs.Inner.Keys.{keyAt}
+use Rattle.cd_merge_meaning.proofs.Laws.Means.{mean-plain, mean-single, mean-score}
+use Rattle.cd_merge_meaning.proofs.Laws.Answer.{accepted-good}
+use Rattle.cd_merge_meaning.proofs.Laws.Keys.{key-before, merged-in, keys-merge}
 
 -- ---- pairs of numbers with rising keys
 all-in : (P : ℕ → Type 0) (l : List ℕ) → ((x : ℕ) → In x l → P x) → All P l

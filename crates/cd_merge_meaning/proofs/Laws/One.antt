@@ -35,12 +35,12 @@ use Rattle.cd_order.specs.Sorting.{placed, inOrder}
 use Rattle.cd_order.proofs.Laws.Chosen.{Rises, chosen-none, chosen-more, chosen-in, chosen-up}
 use Rattle.cd_best.proofs.Laws.BitsOrder.{le-both}
 use Rattle.cd_ranking.specs.Ranking.{standsBefore}
-use Rattle.cd_merge.specs.Entries.{entries, languageAt, scoreAt}
-use Rattle.cd_merge.specs.Merge.{sumOf, countOf, mean, meanAt, isFirst, firsts, merged, wordsOf, mergedWords}
-use Rattle.cd_merge.specs.Answer.{isScore}
-use Rattle.cd_merge.specs.Inner.Good.{Good}
-use Rattle.cd_merge.proofs.Laws.Check.{score-nan, score-bits}
-use Rattle.cd_merge.proofs.Laws.Means.{ONE-F32, one-value, infinity-none, score-high}
+use Rattle.cd_merge_meaning.specs.Entries.{entries, languageAt, scoreAt}
+use Rattle.cd_merge_meaning.specs.Merge.{sumOf, countOf, mean, meanAt, isFirst, firsts, merged, wordsOf, mergedWords}
+use Rattle.cd_merge_meaning.specs.Answer.{isScore}
+use Rattle.cd_merge_meaning.specs.Inner.Good.{Good}
+use Rattle.cd_merge_meaning.proofs.Laws.Check.{score-nan, score-bits}
+use Rattle.cd_merge_meaning.proofs.Laws.Means.{ONE-F32, one-value, infinity-none, score-high}
 
 -- ---- an f32 from 0 to 1 is itself when it is rounded: 24 digits and a power of two
 record Own (x : Float) : Type 0 where
