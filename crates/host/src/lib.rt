@@ -16,7 +16,7 @@ ghost use Rattle.cd_meaning.specs.Coherence.{DEFAULT-THRESHOLD, matchesOf, work
 ghost use Rattle.cd_merge_meaning.specs.Answer.{mergeAnswer, mergeInto};
 ghost use Rattle.md_report.specs.Report.{reportAnswer, reportInto};
 ghost use Rattle.ring_meaning.specs.Calls as rings;
-ghost use Rattle.utf8_write.specs.Answer as writing;
+ghost use Rattle.utf8_write_meaning.specs.Answer as writing;
 ghost use Rattle.host.specs.Chosen.{hostChosen};
 ghost use Rattle.host.specs.Host.{hostCounted, hostScore, hostVerdict, hostRing};
 ghost use Rattle.host.specs.Matches.{hostRanking, hostMerged};
