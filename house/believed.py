@@ -42,8 +42,8 @@ STATEMENTS = [
     ("utf8_write_meaning", "RoundTrips", "written-bytes"),  # the bytes written are the encodings of the text, one after the other
     ("utf8_write_meaning", "RoundTrips", "written-read"),  # reading what was written gives the text
     ("utf8_write_meaning", "RoundTrips", "read-written"),  # writing what was read gives the bytes
-    ("page", "RoundTrips", "write-after-read"),  # writing what was read gives the same bytes
-    ("page", "RoundTrips", "read-after-write"),  # reading what was written gives the same text
+    ("page_meaning", "RoundTrips", "write-after-read"),  # writing what was read gives the same bytes
+    ("page_meaning", "RoundTrips", "read-after-write"),  # reading what was written gives the same text
     ("marked_cases", "Marked", "marked"),  # 01's cases (a) to (l)
     ("md_running_meaning", "Line", "line-follows"),  # 02 [6]: the state after k characters is the scan's, up to the stop, and stays there after it
     ("md_running_meaning", "Line", "line-whole"),  # a line that was fed in full answers what the whole call answers

@@ -14,11 +14,11 @@ use Rattle.base.specs.Among.{among}
 use Rattle.base.specs.First.{first}
 use Rattle.base.proofs.Laws.First.{first-before, first-none}
 use Rattle.base.proofs.Laws.Tests.{by-bool, split}
-use Rattle.page.specs.Page.{PAGE-ENTRIES, BYTES, UNUSED, FIRST-HIGH, entry, pointOf, byteOf, lacks, unusedAt, lackingAt, pointsOf, bytesOf}
-use Rattle.page.specs.Inner.Good.{Good}
-use Rattle.page.specs.Inner.Tables.{Points, Inverse, looked, firstUnused, lacking, firstLacking}
-use Rattle.page.proofs.Laws.Lists.{getD-any, getD-past, first-same, map-same, among-before}
-use Rattle.page.proofs.Laws.Page.{point-low, point-high, used-has, has-used, point-of-byte}
+use Rattle.page_meaning.specs.Page.{PAGE-ENTRIES, BYTES, UNUSED, FIRST-HIGH, entry, pointOf, byteOf, lacks, unusedAt, lackingAt, pointsOf, bytesOf}
+use Rattle.page_meaning.specs.Inner.Good.{Good}
+use Rattle.page_meaning.specs.Inner.Tables.{Points, Inverse, looked, firstUnused, lacking, firstLacking}
+use Rattle.page_meaning.proofs.Laws.Lists.{getD-any, getD-past, first-same, map-same, among-before}
+use Rattle.page_meaning.proofs.Laws.Page.{point-low, point-high, used-has, has-used, point-of-byte}
 
 -- every number of a list is below a bound: what a slice of u8, u16 or u32 brings with it
 abbrev pub Below : ℕ → List ℕ → Type 0

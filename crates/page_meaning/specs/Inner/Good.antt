@@ -4,7 +4,7 @@ use mathlib.Core.Path.{_≡_}
 use mathlib.Core.List.{List}
 use Prim.Native.Nat.{ℕ}
 use lib.ListN.{length}
-use Rattle.page.specs.Page.{PAGE-ENTRIES, firstBad}
+use Rattle.page_meaning.specs.Page.{PAGE-ENTRIES, firstBad}
 
 pub record Good (page : List ℕ) : Type 0 where
   pub size : length page ≡ PAGE-ENTRIES

@@ -12,7 +12,7 @@ use Rattle.base.specs.Causes.{given, firstOf}
 use Rattle.base.specs.Counted.{countUnless, lentAfter}
 use Rattle.base.specs.Limits.{LONGEST-TEXT}
 use Rattle.base.specs.Refusals.{TOO-LONG, ILL-FORMED, NO-ROOM, BAD-PAGE, NOT-ON-PAGE}
-use Rattle.page.specs.Page.{PAGE-ENTRIES, firstBad, unusedAt, lackingAt, pointsOf, bytesOf}
+use Rattle.page_meaning.specs.Page.{PAGE-ENTRIES, firstBad, unusedAt, lackingAt, pointsOf, bytesOf}
 
 -- 1: "over 65,536 bytes or code points"
 unfoldable pub tooLong : List ℕ → Cause

@@ -7,7 +7,7 @@ use mathlib.Core.List.{List, map}
 use lib.ListN.{length, getD}
 use lib.Dec.{eqb, leb}
 use Rattle.base.specs.First.{first}
-use Rattle.page.specs.Page.{UNUSED, BYTES, pointOf, byteOf, lacks}
+use Rattle.page_meaning.specs.Page.{UNUSED, BYTES, pointOf, byteOf, lacks}
 
 -- the code point of each byte
 abbrev pub Points : List ℕ → List ℕ → Type 0

@@ -26,13 +26,13 @@ use Rattle.base.proofs.Laws.Causes.{given-free, first-free, free-given, free-fi
 use Rattle.base.proofs.Laws.Counted.{counted-allowed, count-allowed, count-is, after-allowed}
 use Rattle.base.proofs.Laws.First.{first-before, first-none}
 use Rattle.base.proofs.Laws.Put.{put-first}
-use Rattle.page.specs.Page.{UNUSED, pointOf, byteOf, lacks, unusedAt, lackingAt, pointsOf, bytesOf}
-use Rattle.page.specs.Answer.{tooLong, badPage, unusedByte, notOnPage, noRoom, readCauses, readAnswer, readInto, writeCauses, writeAnswer, writeInto}
-use Rattle.page.specs.RoundTrips.{Back}
-use Rattle.page.specs.Inner.Good.{Good}
-use Rattle.page.proofs.Laws.Lists.{length-map, getD-map, map-back}
-use Rattle.page.proofs.Laws.Page.{byte-of-point, point-of-byte, used-has, has-used}
-use Rattle.page.proofs.Laws.Answer.{allowed-good, good-allowed}
+use Rattle.page_meaning.specs.Page.{UNUSED, pointOf, byteOf, lacks, unusedAt, lackingAt, pointsOf, bytesOf}
+use Rattle.page_meaning.specs.Answer.{tooLong, badPage, unusedByte, notOnPage, noRoom, readCauses, readAnswer, readInto, writeCauses, writeAnswer, writeInto}
+use Rattle.page_meaning.specs.RoundTrips.{Back}
+use Rattle.page_meaning.specs.Inner.Good.{Good}
+use Rattle.page_meaning.proofs.Laws.Lists.{length-map, getD-map, map-back}
+use Rattle.page_meaning.proofs.Laws.Page.{byte-of-point, point-of-byte, used-has, has-used}
+use Rattle.page_meaning.proofs.Laws.Answer.{allowed-good, good-allowed}
 
 -- ---- the definitions
 module _ (page bytes : List ℕ) (none : length bytes ≤ unusedAt page bytes) where

@@ -22,9 +22,9 @@ use Rattle.base.specs.Refusals.{TOO-LONG, ILL-FORMED, NO-ROOM, BAD-PAGE, NOT-ON
 use Rattle.base.proofs.Laws.Causes.{given-yes, free-given, given-free, first-refused, first-on, first-given, first-passed, first-free, free-first}
 use Rattle.base.proofs.Laws.Counted.{counted-allowed, counted-refused, counted-at, after-allowed, after-refused}
 use Rattle.base.proofs.Laws.First.{first-within}
-use Rattle.page.specs.Page.{PAGE-ENTRIES, badEntry, firstBad, unusedAt, lackingAt, pointsOf, bytesOf}
-use Rattle.page.specs.Answer.{tooLong, badPage, unusedByte, notOnPage, noRoom, readCauses, readAnswer, readInto, writeCauses, writeAnswer, writeInto}
-use Rattle.page.specs.Inner.Good.{Good}
+use Rattle.page_meaning.specs.Page.{PAGE-ENTRIES, badEntry, firstBad, unusedAt, lackingAt, pointsOf, bytesOf}
+use Rattle.page_meaning.specs.Answer.{tooLong, badPage, unusedByte, notOnPage, noRoom, readCauses, readAnswer, readInto, writeCauses, writeAnswer, writeInto}
+use Rattle.page_meaning.specs.Inner.Good.{Good}
 
 -- ---- the check of a page
 module _ (page : List ℕ) where

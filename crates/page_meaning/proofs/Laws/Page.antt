@@ -15,9 +15,9 @@ use Rattle.base.specs.Limits.{SURROGATE-FIRST, SURROGATE-LAST}
 use Rattle.base.specs.Tests.{within}
 use Rattle.base.proofs.Laws.First.{first-is, first-before, first-found, first-within}
 use Rattle.base.proofs.Laws.Tests.{by-bool, split}
-use Rattle.page.specs.Page.{PAGE-ENTRIES, FIRST-HIGH, BYTES, UNUSED, entry, badEntry, firstBad, pointOf, byteOf, lacks}
-use Rattle.page.specs.Inner.Good.{Good}
-use Rattle.page.proofs.Laws.Lists.{getD-any, getD-past, among-before}
+use Rattle.page_meaning.specs.Page.{PAGE-ENTRIES, FIRST-HIGH, BYTES, UNUSED, entry, badEntry, firstBad, pointOf, byteOf, lacks}
+use Rattle.page_meaning.specs.Inner.Good.{Good}
+use Rattle.page_meaning.proofs.Laws.Lists.{getD-any, getD-past, among-before}
 
 module _ (page : List ℕ) where
   pub point-low : (b : ℕ) → b < FIRST-HIGH → pointOf page b ≡ b
