@@ -21,7 +21,7 @@ use lib.Ieee.Order.{round-mono}
 use lib.Ieee.Scale.{grid, finite, round-val, round-under, round-same}
 use borrow.Author.Tests.{leb-true, le-ltb, eqb-true, eqb-false}
 use Rattle.base.proofs.Laws.Tests.{and-l, and-r}
-use Rattle.ratio.specs.Demand.{ONE}
+use Rattle.ratio.specs.Parts.{ONE}
 use Rattle.ratio.specs.Rounded.{ZERO, _⊕_}
 use Rattle.ratio.specs.Inner.Finite.{Plain}
 use Rattle.ratio.proofs.Laws.Comparing.{le-is}

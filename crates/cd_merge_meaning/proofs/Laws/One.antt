@@ -25,7 +25,7 @@ use borrow.Author.Tests.{leb-true, le-leb, lt-ltb, eq-eqb, ne-eqb}
 use Rattle.base.proofs.Laws.First.{first-none}
 use Rattle.base.proofs.Laws.In.{In}
 use Rattle.base.proofs.Laws.Tests.{split}
-use Rattle.ratio.specs.Demand.{ONE}
+use Rattle.ratio.specs.Parts.{ONE}
 use Rattle.ratio.specs.Rounded.{ZERO, _⊕_, bitsOf}
 use Rattle.ratio.proofs.Laws.Comparing.{le-is}
 use Rattle.ratio.proofs.Laws.Finite.{plain-of}

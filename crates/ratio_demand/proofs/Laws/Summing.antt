@@ -15,17 +15,18 @@ use lib.Ieee.{Float, binary32}
 use lib.Ieee.Exact.{HasValue}
 use lib.Ieee.Scale.{grid, round-val}
 use Rattle.base.specs.Inner.All.{All}
 use Rattle.ratio.specs.declared.Fraction.{Fraction}
 use Rattle.ratio.specs.Eight.{DETECTORS, Fractions, ratios, sum}
 use Rattle.ratio.specs.Inner.Eight.{listFractions, EachProper}
 use Rattle.ratio.specs.Inner.Fraction.{MOST-NUM, Proper}
 use Rattle.ratio.specs.Rounded.{rounded, _⊕_}
-use Rattle.ratio.specs.Demand.{ONE, denominators, numerators, exact}
+use Rattle.ratio_demand.specs.Demand.{denominators, numerators, exact}
+use Rattle.ratio.specs.Parts.{ONE}
 use Rattle.ratio.proofs.Laws.Once.{Once, once-scale}
-use Rattle.ratio.proofs.Laws.Apart.{Apart, apart-once, apart-more, apart-scale, apart-add, apart-round, apart-twice, Off, apart-off}
+use Rattle.ratio_demand.proofs.Laws.Apart.{Apart, apart-once, apart-more, apart-scale, apart-add, apart-round, apart-twice, Off, apart-off}
 use Rattle.ratio.proofs.Laws.Grid.{grid-whole}
 use Rattle.ratio.proofs.Laws.Operations.{add-at}
 use Rattle.ratio.proofs.Laws.Rounded.{partsOf, rounded-once, rounded-value}
 
 -- ---- numbers. One is l parts. w parts are N / D after k roundings, and N / D is at most k times the largest fraction.
 abbrev Rounds : ℕ → ℕ → ℕ → ℕ → ℕ → Type 0

@@ -8,11 +8,12 @@ use mathlib.Core.List.{[], _∷_}
 use lib.Dec.{ltb}
 use lib.IntN.{pos, natAbs, _-ℤ_}
 use lib.Ieee.{round, add}
 use Rattle.ratio.specs.declared.Fraction.{Fraction}
 use Rattle.ratio.specs.Eight.{Fractions, ratios, sum}
 use Rattle.ratio.specs.Inner.Eight.{fractionsIn}
 use Rattle.ratio.specs.Rounded.{rounded}
-use Rattle.ratio.specs.Demand.{parts, denominators, numerators, exact, multiplied}
+use Rattle.ratio_demand.specs.Demand.{denominators, numerators, exact, multiplied}
+use Rattle.ratio.specs.Parts.{parts}
 
 infix 70 _over_
 abbrev _over_ : ℕ → ℕ → Fraction

@@ -3,27 +3,12 @@
 -- denominators"). E is the exact mess value, the sum of the eight fractions; s is the score and t the threshold, both finite f32. Which
 -- fractions a text has is said elsewhere. That the sum of the rounded ratios meets the three inequalities is proved in proofs/Laws/Demand.
 -- Assumes nothing.
-use Prim.Native.Nat.{ℕ, _+_, _-_, _*_, _/_, _^_, _≤_}
-use mathlib.Core.Bool.{Bool, cond}
-use lib.IntN.{ℤ, pos, negℤ, natAbs, _*ℤ_, _-ℤ_}
+use Prim.Native.Nat.{ℕ, _+_, _-_, _*_, _^_, _≤_}
+use lib.IntN.{ℤ, pos, natAbs, _*ℤ_, _-ℤ_}
 use lib.Signed.{_≤ℤ_, _<ℤ_}
-use lib.Ieee.{Float, nan, inf, fin, up, down}
+use lib.Ieee.{Float}
 use Rattle.ratio.specs.Eight.{Fractions}
-
--- one is so many parts
-abbrev pub ONE : ℕ
-ONE = 2 ^ 149
-
--- w, negative where the sign is set
-abbrev pub signed : Bool → ℕ → ℤ
-signed sign w = cond sign (negℤ (pos w)) (pos w)
-
--- A finite f32 in parts of 2 ^ -149: `fin sign m e` is the number m * 2 ^ e, and 2 ^ e is up e / down e. The division leaves no
--- remainder at any value that an f32 holds (`Parts`: parts-whole). NaN and the infinities are no number of parts; 0 stands for them here.
-unfoldable pub parts : Float → ℤ
-parts nan = pos 0
-parts (inf sign) = pos 0
-parts (fin sign m e) = signed sign (m * up e * ONE / down e)
+use Rattle.ratio.specs.Parts.{ONE, parts}
 
 -- the product of the eight denominators
 unfoldable pub denominators : Fractions → ℕ

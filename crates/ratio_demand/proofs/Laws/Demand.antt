@@ -14,17 +14,18 @@ use lib.Signed.{_≤ℤ_, _<ℤ_, leZ}
 use lib.Pow.{pow-pos}
 use lib.Ieee.{Float, nan, inf, fin, binary32, fits, le, lt}
 use lib.Ieee.Exact.{HasValue}
 use Rattle.ratio.specs.Eight.{Fractions, ratios, sum}
 use Rattle.ratio.specs.Inner.Eight.{EachProper}
-use Rattle.ratio.specs.Demand.{ONE, signed, denominators, exact, Near, Reached, Missed}
+use Rattle.ratio_demand.specs.Demand.{denominators, exact, Near, Reached, Missed}
+use Rattle.ratio.specs.Parts.{ONE, signed}
 use Rattle.ratio.specs.Finite.{isFinite, Finite}
 use Rattle.ratio.specs.Inner.Finite.{Plain}
 use Rattle.ratio.proofs.Laws.Finite.{plain-of}
 use Rattle.ratio.proofs.Laws.Parts.{parts-is, Whole, parts-whole}
 use Rattle.ratio.proofs.Laws.Once.{U}
-use Rattle.ratio.proofs.Laws.Apart.{OFF, Off}
+use Rattle.ratio_demand.proofs.Laws.Apart.{OFF, Off}
 use Rattle.ratio.proofs.Laws.Comparing.{le-is, lt-not-le}
-use Rattle.ratio.proofs.Laws.Summing.{Sum, sum-off}
+use Rattle.ratio_demand.proofs.Laws.Summing.{Sum, sum-off}
 
 holds : (b : Bool) → b ≡ true → T b
 holds b e = subst (λ (z : Bool). T z) (sym e) tt
