@@ -5,7 +5,7 @@ use Prim.Native.Nat.{ℕ}
 use mathlib.Core.List.{List}
 use lib.Ieee.{Float}
 use Rattle.f32_nearest.specs.Nearest.{nearestF32}
-use Rattle.cd_jaro.specs.Jaro.{jaro}
+use Rattle.cd_jaro_meaning.specs.Jaro.{jaro}
 
 unfoldable pub similarity : List ℕ → List ℕ → Float
 similarity layer language = nearestF32 (jaro layer language)

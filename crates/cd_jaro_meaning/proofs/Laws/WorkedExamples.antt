@@ -7,8 +7,8 @@ use mathlib.Core.List.{List, [], _∷_}
 use lib.Ieee.{ofBits, ofInt, binary32, binary64, round, add, div}
 use Rattle.base.specs.First.{seek, first}
 use Rattle.f32_nearest.specs.Nearest.{nearestF32}
-use Rattle.cd_jaro.specs.Jaro.{window, serves, place, takes, matching, picked, differing, matches, outOfOrder, transpositions, measure, jaro}
-use Rattle.cd_jaro.specs.Similarity.{similarity}
+use Rattle.cd_jaro_meaning.specs.Jaro.{window, serves, place, takes, matching, picked, differing, matches, outOfOrder, transpositions, measure, jaro}
+use Rattle.cd_jaro_meaning.specs.Similarity.{similarity}
 
 -- m, t, and the bits of the f64 and of the f32
 pub record Worked (layer language : List ℕ) (m t double single : ℕ) : Type 0 where

@@ -20,11 +20,11 @@ use Rattle.ratio.proofs.Laws.Finite.{plain-of}
 use Rattle.f32_nearest.specs.Nearest.{nearestF32}
 use Rattle.f32_nearest.specs.Inner.Nearest.{Narrowable, NOUGHT, EIGHTH, ONE}
 use Rattle.f32_nearest.proofs.Laws.Nearest.{nearest-is}
-use Rattle.cd_jaro.specs.Jaro.{jaro}
-use Rattle.cd_jaro.proofs.Laws.Held.{Held, exact, held}
-use Rattle.cd_jaro.proofs.Laws.Bounds.{jaro-bounds}
-use Rattle.cd_jaro.specs.Similarity.{similarity}
-use Rattle.cd_jaro.specs.Inner.Similarity.{UNITS, Good}
+use Rattle.cd_jaro_meaning.specs.Jaro.{jaro}
+use Rattle.cd_jaro_meaning.proofs.Laws.Held.{Held, exact, held}
+use Rattle.cd_jaro_meaning.proofs.Laws.Bounds.{jaro-bounds}
+use Rattle.cd_jaro_meaning.specs.Similarity.{similarity}
+use Rattle.cd_jaro_meaning.specs.Inner.Similarity.{UNITS, Good}
 
 -- over a variable L for 2 ^ 1074 and 2 ^ 149
 eighth : (L p : ℕ) → 43 * L ≤ p * 256 → 1 * L ≤ p * 8

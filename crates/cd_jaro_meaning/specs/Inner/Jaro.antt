@@ -4,7 +4,7 @@ use Prim.Native.Nat.{ℕ, _*_, _≤_}
 use mathlib.Core.Path.{_≡_}
 use mathlib.Core.List.{List}
 use lib.ListN.{length}
-use Rattle.cd_jaro.specs.Jaro.{matches, transpositions}
+use Rattle.cd_jaro_meaning.specs.Jaro.{matches, transpositions}
 
 -- m and t, and what a caller needs of their size
 pub record Counted (layer language : List ℕ) (m t : ℕ) : Type 0 where

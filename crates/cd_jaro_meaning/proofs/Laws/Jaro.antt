@@ -12,9 +12,9 @@ use lib.IntN.{pos}
 use lib.Ieee.{Float, binary64, ofBits, ofInt, round, add, div}
 use borrow.Author.Tests.{eq-eqb, ne-eqb}
 use Rattle.base.proofs.Laws.Numbers.{bump-small}
-use Rattle.cd_jaro.specs.Jaro.{picked, differing, whole, matches, outOfOrder, transpositions, over, measure, jaro}
-use Rattle.cd_jaro.proofs.Laws.Matching.{picked-le, even, letters-le}
-use Rattle.cd_jaro.specs.Inner.Jaro.{Counted}
+use Rattle.cd_jaro_meaning.specs.Jaro.{picked, differing, whole, matches, outOfOrder, transpositions, over, measure, jaro}
+use Rattle.cd_jaro_meaning.proofs.Laws.Matching.{picked-le, even, letters-le}
+use Rattle.cd_jaro_meaning.specs.Inner.Jaro.{Counted}
 
 differing-le : (xs ys : List ℕ) → differing xs ys ≤ length xs
 unfolding differing

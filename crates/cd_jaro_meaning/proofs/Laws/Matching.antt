@@ -12,8 +12,8 @@ use lib.ListN.{length, getD, set, replicate, length-set, length-replicate, lengt
 use lib.Dec.{ltb}
 use borrow.Author.Tests.{ltb-true, lt-ltb, le-ltb}
 use Rattle.base.proofs.Laws.Tests.{by-test}
-use Rattle.cd_jaro.specs.Jaro.{window, Matching, place, takes, matching, picked}
-use Rattle.cd_jaro.proofs.Loops.Place.{place-free}
+use Rattle.cd_jaro_meaning.specs.Jaro.{window, Matching, place, takes, matching, picked}
+use Rattle.cd_jaro_meaning.proofs.Laws.Place.{place-free}
 
 pub picked-le : (l : List ℕ) (t : List Bool) → length (picked l t) ≤ length l
 unfolding picked

@@ -21,9 +21,9 @@ use Rattle.base.specs.Inner.Limits.{MOST-LETTERS}
 use Rattle.base.specs.Limits.{LANGUAGE-LETTERS}
 use Rattle.ratio.proofs.Laws.Operations.{add-at, div-at}
 use Rattle.f32_nearest.specs.Inner.Nearest.{NOUGHT}
-use Rattle.cd_jaro.specs.Jaro.{matches, transpositions, over, measure, jaro}
-use Rattle.cd_jaro.proofs.Laws.Jaro.{matches-layer, matches-language, transpositions-half}
-use Rattle.cd_jaro.proofs.Laws.Held.{Exact, Held, exact, held}
+use Rattle.cd_jaro_meaning.specs.Jaro.{matches, transpositions, over, measure, jaro}
+use Rattle.cd_jaro_meaning.proofs.Laws.Jaro.{matches-layer, matches-language, transpositions-half}
+use Rattle.cd_jaro_meaning.proofs.Laws.Held.{Exact, Held, exact, held}
 
 -- numerators over powers of two, up to 256
 over-1 : (a : ℕ) → 0 < a → a < 2 ^ 53 → Exact binary64 a 1
