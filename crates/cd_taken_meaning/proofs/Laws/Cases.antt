@@ -1,6 +1,6 @@
--- Worked out. Two texts with no class records: both kinds of refusal 6 of 01 are met. U+0181 is in the built-in table, is taken, and has its lower case,
--- U+0253, past it; U+0253 itself has no class. And 02 [4]: U+0130 is taken whatever the class table, with its two letters; where U+0307 has no class, 6
--- is given at its index.
+-- Worked out. Three texts with no class records: both kinds of refusal 6 of 01 are met, and the first index of either is told. U+0181 is in the
+-- built-in table, is taken, and has its lower case, U+0253, past it; U+0253 itself has no class. And 02 [4]: U+0130 is taken whatever the class table,
+-- with its two letters; where U+0307 has no class, 6 is given at its index.
 -- Assumes nothing.
 use Prim.Native.Nat.{ℕ}
 use mathlib.Core.Path.{_≡_, refl, ap, _∙_}
@@ -14,8 +14,8 @@ use Rattle.classes.specs.declared.Found.the-variants.{At}
 use Rattle.classes.specs.Lookup.{classOf, builtinClass, lentClass}
 use Rattle.classes.proofs.Laws.Lookup.{class-builtin}
 use Rattle.class_records.specs.Records.{holder}
-use Rattle.cd_taken.specs.Taken.{CAPITAL-I-WITH-DOT, isTaken, lowered, takenLetters}
-use Rattle.cd_taken.specs.Unclassed.{someMissing, unclassed, unclassedAt, firstUnclassed}
+use Rattle.cd_taken_meaning.specs.Taken.{CAPITAL-I-WITH-DOT, isTaken, lowered, takenLetters}
+use Rattle.cd_taken_meaning.specs.Unclassed.{someMissing, unclassed, unclassedAt, firstUnclassed}
 
 pub lower-case-unclassed : firstUnclassed [] (0x61 ∷ 0x181 ∷ []) ≡ 1
 unfolding firstUnclassed unclassedAt unclassed someMissing isTaken lowered first seek has classOf builtinClass lentClass holder entryAt flagWords rangeNumbers bases lowers
@@ -24,6 +24,11 @@ lower-case-unclassed = refl
 pub itself-unclassed : firstUnclassed [] (0x61 ∷ 0x62 ∷ 0x253 ∷ []) ≡ 2
 unfolding firstUnclassed unclassedAt unclassed someMissing isTaken lowered first seek has classOf builtinClass lentClass holder entryAt flagWords rangeNumbers bases lowers
 itself-unclassed = refl
+
+-- "at the first index of either kind": a lower case without a class, and behind it a character without one
+pub either-unclassed : firstUnclassed [] (0x181 ∷ 0x253 ∷ []) ≡ 0
+unfolding firstUnclassed unclassedAt unclassed someMissing isTaken lowered first seek has classOf builtinClass lentClass holder entryAt flagWords rangeNumbers bases lowers
+either-unclassed = refl
 
 pub dot-unclassed : firstUnclassed [] (0x61 ∷ 0x130 ∷ []) ≡ 1
 unfolding firstUnclassed unclassedAt unclassed someMissing isTaken lowered first seek has classOf builtinClass lentClass holder entryAt flagWords rangeNumbers bases lowers

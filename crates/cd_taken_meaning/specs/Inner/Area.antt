@@ -13,8 +13,8 @@ use Rattle.classes.specs.declared.Found.the-variants.{At, Nothing}
 use Rattle.classes.specs.Lookup.{classOf}
 use Rattle.cd_work.specs.Inner.Parts.{withText, lettersIn}
 use Rattle.cd_letters.specs.Letters.{count}
-use Rattle.cd_taken.specs.Taken.{isTaken, CAPITAL-I-WITH-DOT, DOT-ABOVE}
-use Rattle.cd_taken.specs.declared.Letter.{Letter}
+use Rattle.cd_taken_meaning.specs.Taken.{isTaken, CAPITAL-I-WITH-DOT, DOT-ABOVE}
+use Rattle.cd_taken_meaning.specs.declared.Letter.{Letter}
 
 -- how many slots a text has: one for each code point, and one more for each U+0130
 abbrev pub slotsOf : List ℕ → ℕ

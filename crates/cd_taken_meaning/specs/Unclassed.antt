@@ -10,7 +10,7 @@ use Rattle.base.specs.First.{first}
 use Rattle.classes.specs.declared.Found.{Found}
 use Rattle.classes.specs.declared.Found.the-variants.{At, Nothing}
 use Rattle.classes.specs.Lookup.{classOf, missing}
-use Rattle.cd_taken.specs.Taken.{isTaken, lowered}
+use Rattle.cd_taken_meaning.specs.Taken.{isTaken, lowered}
 
 -- some of the letters has no class
 unfoldable pub someMissing : List ℕ → List ℕ → Bool

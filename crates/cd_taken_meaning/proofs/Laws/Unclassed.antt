@@ -20,8 +20,8 @@ use Rattle.classes.specs.declared.Found.{Found}
 use Rattle.classes.specs.declared.Found.the-variants.{At, Nothing}
 use Rattle.classes.specs.Lookup.{classOf, builtinClass, missing}
 use Rattle.classes.proofs.Laws.Lookup.{class-builtin, class-lawful}
-use Rattle.cd_taken.specs.Taken.{CAPITAL-I-WITH-DOT, DOT-ABOVE, isTaken, lowered}
-use Rattle.cd_taken.specs.Unclassed.{someMissing, unclassed, unclassedAt, firstUnclassed}
+use Rattle.cd_taken_meaning.specs.Taken.{CAPITAL-I-WITH-DOT, DOT-ABOVE, isTaken, lowered}
+use Rattle.cd_taken_meaning.specs.Unclassed.{someMissing, unclassed, unclassedAt, firstUnclassed}
 
 -- the letters that a character lowers to
 module _ (classes : List ℕ) (c : Class) where

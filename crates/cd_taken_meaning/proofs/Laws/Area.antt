@@ -29,8 +29,8 @@ use Rattle.cd_layers.proofs.Laws.Joined.{joined-twice}
 use Rattle.cd_layers.specs.Inner.Numbers.{Below}
 use Rattle.cd_letters.specs.Letters.{count}
 use Rattle.cd_letters.proofs.Laws.Letters.{count-few}
-use Rattle.cd_taken.specs.Taken.{CAPITAL-I-WITH-DOT, DOT-ABOVE, isTaken, lowered, takenLetters, takenChars}
-use Rattle.cd_taken.specs.Inner.Area.{slotsOf, letterOf, inSlots, rangesOf, lowersOf, filled}
+use Rattle.cd_taken_meaning.specs.Taken.{CAPITAL-I-WITH-DOT, DOT-ABOVE, isTaken, lowered, takenLetters, takenChars}
+use Rattle.cd_taken_meaning.specs.Inner.Area.{slotsOf, letterOf, inSlots, rangesOf, lowersOf, filled}
 
 -- by what the lookup finds
 pub letter-none : {f : Found} → f ≡ Nothing → letterOf f ≡ record { range = 0; lower = 0 }
