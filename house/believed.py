@@ -39,11 +39,11 @@ STATEMENTS = [
     ("md_meaning", "DemandThree", "demand-three"),  # demand 3
     ("md_meaning", "Counts", "counts-so"),  # 02 [7]: what the counts of an answer say of its ratios and of demand 3's fractions
     ("utf8", "Read", "accepted-encodes"),  # the reader's text is the one whose encoding the bytes are
-    ("utf8_write", "RoundTrips", "written-bytes"),  # the bytes written are the encodings of the text, one after the other
-    ("utf8_write", "RoundTrips", "written-read"),  # reading what was written gives the text
-    ("utf8_write", "RoundTrips", "read-written"),  # writing what was read gives the bytes
-    ("page", "RoundTrips", "write-after-read"),  # writing what was read gives the same bytes
-    ("page", "RoundTrips", "read-after-write"),  # reading what was written gives the same text
+    ("utf8_write_meaning", "RoundTrips", "written-bytes"),  # the bytes written are the encodings of the text, one after the other
+    ("utf8_write_meaning", "RoundTrips", "written-read"),  # reading what was written gives the text
+    ("utf8_write_meaning", "RoundTrips", "read-written"),  # writing what was read gives the bytes
+    ("page_meaning", "RoundTrips", "write-after-read"),  # writing what was read gives the same bytes
+    ("page_meaning", "RoundTrips", "read-after-write"),  # reading what was written gives the same text
     ("marked_cases", "Marked", "marked"),  # 01's cases (a) to (l)
     ("md_running_meaning", "Line", "line-follows"),  # 02 [6]: the state after k characters is the scan's, up to the stop, and stays there after it
     ("md_running_meaning", "Line", "line-whole"),  # a line that was fed in full answers what the whole call answers
@@ -61,7 +61,7 @@ STATEMENTS = [
     ("md_report", "Report", "lines-add-up"),  # and that sum with the refused lines is the number of lines given
     ("md_report", "Report", "numbers-add-up"),  # the lines refused with each number add up to the refused
     ("md_report", "Longest", "report-fits"),  # no text of a month is longer than LONGEST-REPORT
-    ("cd_merge", "Merge", "means-between"),  # 02 [14]: each mean, rounding included, lies between 0 and 1
+    ("cd_merge_meaning", "Merge", "means-between"),  # 02 [14]: each mean, rounding included, lies between 0 and 1
 ]
 
 

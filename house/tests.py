@@ -64,7 +64,7 @@ def sentence_without_definition(tree):
 
 
 def definition_without_sentence(tree):
-    changed(tree / "house/sentences.txt", "= ratio/Demand\n", "")
+    changed(tree / "house/sentences.txt", "= ratio_demand/Demand\n", "")
 
 
 def program_not_listed(tree):

@@ -72,7 +72,7 @@ def cases(draw):
     ends = [(0, 1), (0, 0), (5, 0), (MOST_NUM, 1), (1, MOST_DEN), (MOST_NUM, MOST_DEN), (1, 1), (MOST_NUM, MOST_DEN - 1)]
     yield fractions_case(ends)
     yield fractions_case(list(reversed(ends)))
-    # proofs/Laws/DemandExample.antt of the crate ratio: 4.5 parts in 2^24 away from the exact sum
+    # proofs/Laws/DemandExample.antt of the crate ratio_demand: 4.5 parts in 2^24 away from the exact sum
     yield fractions_case([(819, 583), (409, 561), (812, 316), (1169, 900), (1183, 572), (9, 316), (91, 908), (248, 727)])
     at = edges(draw)
     for i in range(0, len(at) - 7, 8):

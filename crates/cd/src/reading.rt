@@ -6,7 +6,7 @@ ghost use Rattle.base.specs.Limits.{LAST-RANGE};
 ghost use Rattle.base.specs.Inner.Limits.{MOST-LETTERS};
 ghost use Rattle.cd_work.specs.Inner.Parts.{Room, Kept};
 ghost use Rattle.cd_letters.specs.Inner.LayerLetters.{layerLetters};
-ghost use Rattle.cd_taken.specs.Inner.Area.{FewUndotted};
+ghost use Rattle.cd_taken_meaning.specs.Inner.Area.{FewUndotted};
 ghost use Rattle.cd_best.specs.Inner.Standing as standings;
 ghost use Rattle.cd_meaning.specs.Inner.After.{layerAfter, orderAfter};
 ghost use Rattle.cd_meaning.specs.Inner.Comparable.{Comparable};

@@ -1,4 +1,2 @@
-pub mod Jaro
 pub mod OutOfOrder
 pub mod Place
-pub mod Similarity

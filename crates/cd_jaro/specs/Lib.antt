@@ -1,3 +1,1 @@
-pub mod Jaro
-pub mod Similarity
 pub mod Inner

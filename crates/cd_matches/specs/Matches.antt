@@ -13,7 +13,7 @@ use lib.Dec.{eqb}
 use lib.Ieee.{Float}
 use Rattle.base.specs.Tests.{implies}
 use Rattle.ratio.specs.declared.Fraction.{Fraction}
-use Rattle.cd_jaro.specs.Similarity.{similarity}
+use Rattle.cd_jaro_meaning.specs.Similarity.{similarity}
 use Rattle.cd_languages.specs.Languages.{languages, numberOf, hasAccents, pureLatin, firstRecord}
 use Rattle.cd_languages.specs.Letters.{lettersOf}
 use Rattle.cd_languages.specs.Included.{loneZero}

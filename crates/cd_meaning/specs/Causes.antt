@@ -16,7 +16,7 @@ use Rattle.cd_languages.specs.Check.{badLanguages}
 use Rattle.cd_languages.specs.Included.{badIncluded}
 use Rattle.cd_languages.specs.Languages.{languages}
 use Rattle.ratio.specs.Finite.{notFinite}
-use Rattle.cd_taken.specs.Unclassed.{firstUnclassed}
+use Rattle.cd_taken_meaning.specs.Unclassed.{firstUnclassed}
 
 -- 1: "coherence over 8,192 code points"
 unfoldable pub tooLong : List ℕ → Cause

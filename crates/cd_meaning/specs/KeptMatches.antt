@@ -9,8 +9,8 @@ use lib.Ieee.{Float}
 use lib.ListN.{length}
 use Rattle.cd_layers.specs.Layers.{Layer, alphaUnicodeSplit}
 use Rattle.cd_letters.specs.Letters.{ranking}
-use Rattle.cd_taken.specs.Taken.{takenChars}
-use Rattle.cd_taken.specs.Accents.{someAccented}
+use Rattle.cd_taken_meaning.specs.Taken.{takenChars}
+use Rattle.cd_taken_meaning.specs.Accents.{someAccented}
 use Rattle.cd_matches.specs.Matches.{matchRecords, scoresOf}
 use Rattle.cd_best.specs.Kept.{Hit, sufficientIn, keptIn}
 

@@ -4,8 +4,8 @@ ghost use mathlib.Core.Path.{_≡_};
 ghost use Prim.Native.Nat.{_<_, _≤_};
 ghost use lib.ListN.{length};
 ghost use lib.Ieee.{ofBits, binary32};
-ghost use Rattle.cd_merge.specs.Entries.{entries, languageAt, scoreAt};
-ghost use Rattle.cd_merge.specs.Answer.{MOST-RANKINGS, over, total, unfit, isScore, firstBad};
+ghost use Rattle.cd_merge_meaning.specs.Entries.{entries, languageAt, scoreAt};
+ghost use Rattle.cd_merge_meaning.specs.Answer.{MOST-RANKINGS, over, total, unfit, isScore, firstBad};
 
 // rankings that are merged
 const MOST_RANKINGS: usize = 64;

@@ -4,9 +4,9 @@ use crate::check::language_at;
 use crate::check::score_of;
 ghost use mathlib.Core.Path.{_≡_};
 ghost use Prim.Native.Nat.{_<_};
-ghost use Rattle.cd_merge.specs.Entries.{entries};
-ghost use Rattle.cd_merge.specs.Merge.{mean, isFirst};
-ghost use Rattle.cd_merge.specs.Inner.Good.{Good};
+ghost use Rattle.cd_merge_meaning.specs.Entries.{entries};
+ghost use Rattle.cd_merge_meaning.specs.Merge.{mean, isFirst};
+ghost use Rattle.cd_merge_meaning.specs.Inner.Good.{Good};
 
 // Whether the entry i is the first of its language.
 pub fn is_first(list: &[u32], i: usize) -> bool

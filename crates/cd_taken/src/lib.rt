@@ -9,15 +9,16 @@ ghost use Rattle.class_builtin.specs.Inner.Words.{packedWords};
 ghost use Rattle.class_records.specs.Records.{goodTable};
 ghost use Rattle.classes.specs.Lookup.{classOf, missing};
 ghost use Rattle.cd_work.specs.Inner.Layout.{lacksStart};
-ghost use Rattle.cd_taken.specs.Taken.{DOT-ABOVE, isTaken, lowered};
-ghost use Rattle.cd_taken.specs.Unclassed.{someMissing, unclassed, firstUnclassed};
-ghost use Rattle.cd_taken.specs.Accents.{isAccentuated, someAccented};
-ghost use Rattle.cd_taken.specs.Inner.Area.{slotsOf, letterOf, filled};
+ghost use Rattle.cd_taken_meaning.specs.Taken.{DOT-ABOVE, isTaken, lowered};
+ghost use Rattle.cd_taken_meaning.specs.Unclassed.{someMissing, unclassed, firstUnclassed};
+ghost use Rattle.cd_taken_meaning.specs.Accents.{isAccentuated, someAccented};
+ghost use Rattle.cd_taken_meaning.specs.Inner.Area.{slotsOf, letterOf, filled};
 use base::flags::ACCENTUATED;
 use base::flags::CHAR_ALPHABETIC;
 use base::is_set;
 use base::pick;
 use cd_letters::size;
+use cd_taken_meaning::Letter;
 use cd_work::letters_start;
 use class_builtin::Table;
 use classes::Class;
@@ -29,12 +30,6 @@ use classes::look_up_near;
 const CAPITAL_I_WITH_DOT: u32 = 0x130;
 
 const DOT_ABOVE: u32 = 0x307;
-
-// What the work area holds of a character: its own range and its lower-case letter; 0 and 0 of one that is not taken.
-struct Letter {
-    range: u32,
-    lower: u32,
-}
 
 // Whether a character of this class is taken.
 fn is_taken(c: Class) -> bool

@@ -1,6 +1,6 @@
 -- Demand 3 for mess_ratio, whole: "The returned score lies within 9 parts in 2^24 of the exact value, a sum of eight fractions of counts,
 -- and the scan stops where the exact value, to within those 9 parts, is at the threshold, and not before." For every text that is accepted
--- and every finite f32 as the threshold, in whole numbers (Rattle.ratio.specs.Demand: Near, Reached, Missed), over the eight fractions of
+-- and every finite f32 as the threshold, in whole numbers (Rattle.ratio_demand.specs.Demand: Near, Reached, Missed), over the eight fractions of
 -- the state after i characters (Scan: stateAt) and each checkpoint by its index. Law: `demand-three`, about the definition that
 -- mess_ratio's contract equates its answer with.
 -- Assumes nothing.
@@ -12,8 +12,8 @@ use lib.Ieee.{Float}
 use lib.ListN.{length}
 use Rattle.md_eight.specs.Detectors.{fractions}
 use Rattle.ratio.specs.Eight.{Fractions}
-use Rattle.ratio.specs.Demand.{Near, Reached, Missed}
-use Rattle.ratio.proofs.Laws.Demand.{near}
+use Rattle.ratio_demand.specs.Demand.{Near, Reached, Missed}
+use Rattle.ratio_demand.proofs.Laws.Demand.{near}
 use Rattle.md_meaning.specs.declared.Score.{Score}
 use Rattle.md_meaning.specs.Text.{total, checkpoint}
 use Rattle.md_meaning.specs.Scan.{stateAt}

@@ -1,3 +1,1 @@
-pub mod Good
 pub mod Marks
-pub mod Tables

@@ -1,4 +1,1 @@
-pub mod Page
-pub mod Answer
-pub mod RoundTrips
 pub mod Inner

@@ -9,8 +9,8 @@ ghost use mathlib.Core.Path.{_≡_};
 ghost use Prim.Native.Nat.{_%_, _<_};
 ghost use lib.ListN.{length, getD, take};
 ghost use Rattle.base.specs.Among.{among};
-ghost use Rattle.page.specs.Answer.{badPage};
-ghost use Rattle.page.specs.Page.{badEntry, firstBad, PAGE-ENTRIES};
+ghost use Rattle.page_meaning.specs.Answer.{badPage};
+ghost use Rattle.page_meaning.specs.Page.{badEntry, firstBad, PAGE-ENTRIES};
 ghost use Rattle.page.specs.Inner.Marks.{MARKS};
 
 // entries of a page

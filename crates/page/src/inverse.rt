@@ -6,9 +6,9 @@ ghost use mathlib.Core.Path.{_≡_};
 ghost use Prim.Native.Nat.{ℕ, _<_, _≤_};
 ghost use lib.ListN.{length, getD, replicate};
 ghost use Rattle.base.specs.Put.{put};
-ghost use Rattle.page.specs.Page.{UNUSED};
-ghost use Rattle.page.specs.Inner.Good.{Good};
-ghost use Rattle.page.specs.Inner.Tables.{Inverse, looked, lacking, firstLacking};
+ghost use Rattle.page_meaning.specs.Page.{UNUSED};
+ghost use Rattle.page_meaning.specs.Inner.Good.{Good};
+ghost use Rattle.page_meaning.specs.Inner.Tables.{Inverse, looked, lacking, firstLacking};
 
 // the numbers that an entry can hold
 pub const POINTS: usize = 65536;

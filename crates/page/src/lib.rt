@@ -25,8 +25,8 @@ ghost use mathlib.Core.Path.{_≡_};
 ghost use Prim.Native.Nat.{_≤_};
 ghost use lib.ListN.{length};
 ghost use Rattle.base.specs.Limits.{LONGEST-TEXT};
-ghost use Rattle.page.specs.Answer.{readAnswer, readInto, writeAnswer, writeInto};
-ghost use Rattle.page.specs.Inner.Good.{Good};
+ghost use Rattle.page_meaning.specs.Answer.{readAnswer, readInto, writeAnswer, writeInto};
+ghost use Rattle.page_meaning.specs.Inner.Good.{Good};
 
 // Reads under a good page. The code points of all 256 bytes are laid out once, so that each byte is one look into them.
 fn read_good(page: &[u16], bytes: &[u8], out: &mut [u32]) -> Counted

@@ -8,8 +8,8 @@ ghost use mathlib.Core.Path.{_≡_};
 ghost use Prim.Native.Nat.{_<_, _≤_};
 ghost use lib.ListN.{length, replicate};
 ghost use Rattle.base.specs.Put.{put};
-ghost use Rattle.page.specs.Page.{pointOf, unusedAt, PAGE-ENTRIES, BYTES};
-ghost use Rattle.page.specs.Inner.Tables.{Points, looked, firstUnused};
+ghost use Rattle.page_meaning.specs.Page.{pointOf, unusedAt, PAGE-ENTRIES, BYTES};
+ghost use Rattle.page_meaning.specs.Inner.Tables.{Points, looked, firstUnused};
 
 // how many bytes there are
 pub const BYTES: usize = 256;

@@ -1,9 +1,6 @@
-pub mod Apart
 pub mod Comparing
 pub mod CutOff
 pub mod CutOffs
-pub mod Demand
-pub mod DemandExample
 pub mod Finite
 pub mod Fraction
 pub mod Grid
@@ -12,4 +9,3 @@ pub mod Operations
 pub mod Parts
 pub mod Rounded
 pub mod Shown
-pub mod Summing

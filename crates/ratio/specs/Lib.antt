@@ -1,7 +1,7 @@
 pub mod Fraction
 pub mod Eight
 pub mod Rounded
-pub mod Demand
+pub mod Parts
 pub mod Finite
 pub mod CutOffs
 pub mod Shown

@@ -1,3 +1,1 @@
-pub mod Checking
-pub mod Counting
 pub mod Writing

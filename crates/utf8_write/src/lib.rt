@@ -1,31 +1,27 @@
 // Code points written as UTF-8, in the shortest form, by the Unicode Standard. Everything is checked and counted before anything is written, so that
 // a refusal leaves the lent output alone; whole eights of ASCII are written in bulk.
-mod ascii;
-mod check;
-mod sequence;
-
-use ascii::narrow;
-use ascii::past_eights;
 use base::Counted;
 use base::limits::LONGEST_TEXT;
 use base::not_counted;
 use base::refusals::NO_ROOM;
 use base::refusals::NOT_SCALAR;
 use base::refusals::TOO_LONG;
-use check::all_scalar;
-use check::first_ill;
-use check::needed;
-use sequence::as_byte;
-use sequence::four_into;
-use sequence::three_into;
-use sequence::two_into;
+use utf8_form::ascii::narrow;
+use utf8_form::ascii::past_eights;
+use utf8_form::check::all_scalar;
+use utf8_form::check::first_ill;
+use utf8_form::check::needed;
+use utf8_form::sequence::as_byte;
+use utf8_form::sequence::four_into;
+use utf8_form::sequence::three_into;
+use utf8_form::sequence::two_into;
 ghost use mathlib.Core.Bool.{true};
 ghost use mathlib.Core.Path.{_≡_};
 ghost use Prim.Native.Nat.{_+_, _≤_};
 ghost use lib.ListN.{length};
 ghost use Rattle.base.specs.Put.{put};
 ghost use Rattle.utf8_table.specs.Encoding.{encodeAll, scalars};
-ghost use Rattle.utf8_write.specs.Answer.{answer, outAfter};
+ghost use Rattle.utf8_write_meaning.specs.Answer.{answer, outAfter};
 ghost use Rattle.utf8_write.specs.Inner.Part.{Part};
 
 // How many code points are written one by one before eight at a time are tried again: few enough that a run of ASCII is not missed for long, and

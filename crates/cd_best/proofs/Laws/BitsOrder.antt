@@ -20,7 +20,7 @@ use borrow.Author.Tests.{ltb-true, lt-ltb, le-ltb, leb-true, le-leb, lt-leb}
 use Rattle.base.proofs.Laws.Tests.{split}
 use Rattle.ratio.proofs.Laws.Comparing.{lt-not-le}
 use Rattle.ratio.specs.Inner.Finite.{Plain}
-use Rattle.ratio.specs.Demand.{ONE}
+use Rattle.ratio.specs.Parts.{ONE}
 use Rattle.cd_best.proofs.Laws.Scores.{le-parts}
 
 -- the bits of n parts of 2 ^ -149: the 24 leading digits of n, and how many were dropped

@@ -10,7 +10,7 @@ use lib.Ieee.{Float, le}
 use lib.Pow.{pow-pos}
 use borrow.Author.Tests.{leb-true, leb-false, le-leb}
 use Rattle.ratio.proofs.Laws.Comparing.{le-is}
-use Rattle.ratio.specs.Demand.{ONE}
+use Rattle.ratio.specs.Parts.{ONE}
 use Rattle.ratio.specs.Inner.Finite.{Plain}
 
 -- how many parts of 2 ^ -149, times ONE

@@ -18,7 +18,7 @@ use Rattle.base.specs.Limits.{MOST-LANGUAGES}
 use Rattle.base.proofs.Laws.Tests.{by-bool, by-test}
 use Rattle.base.proofs.Laws.In.{In, in-front, in-last, in-more}
 use Rattle.ratio.specs.Inner.Finite.{Plain}
-use Rattle.cd_jaro.specs.Inner.Similarity.{Good}
+use Rattle.cd_jaro_meaning.specs.Inner.Similarity.{Good}
 use Rattle.cd_best.specs.declared.Standing.{Standing}
 use Rattle.cd_best.specs.Inner.Standing.{start, unread, keptAt, bestAt, better, keep, walk}
 use Rattle.cd_best.specs.Inner.Holding.{Holds, Each}

@@ -4,7 +4,7 @@ use Prim.Native.Nat.{ℕ, _<_}
 use mathlib.Core.Path.{_≡_}
 use mathlib.Core.List.{List}
 use lib.Ieee.{Float}
-use Rattle.cd_jaro.specs.Inner.Similarity.{Good}
+use Rattle.cd_jaro_meaning.specs.Inner.Similarity.{Good}
 use Rattle.cd_languages.specs.Languages.{languages, numberOf, firstRecord}
 
 abbrev pub Known : List ℕ → ℕ → Float → Type 0

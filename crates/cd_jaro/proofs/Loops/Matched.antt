@@ -12,13 +12,14 @@ use lib.ListN.{length, getD, set, take, replicate, length-set, length-replicate,
 use lib.Seq.{take-set-lt, take-suc-set}
 use Rattle.base.specs.Inner.Limits.{MOST-LETTERS}
 use Rattle.base.specs.Limits.{LANGUAGE-LETTERS}
-use Rattle.cd_jaro.specs.Jaro.{window, place, matching, picked, differing, matches, outOfOrder}
+use Rattle.cd_jaro_meaning.specs.Jaro.{window, place, matching, picked, differing, matches, outOfOrder}
 use Rattle.cd_jaro.specs.Inner.Place.{Reach}
-use Rattle.cd_jaro.proofs.Loops.Place.{place-free, window-le}
+use Rattle.cd_jaro.proofs.Loops.Place.{window-le}
 use Rattle.cd_jaro.specs.Inner.OutOfOrder.{Paired}
-use Rattle.cd_jaro.specs.Inner.Jaro.{Counted}
-use Rattle.cd_jaro.proofs.Laws.Jaro.{counted}
-use Rattle.cd_jaro.proofs.Laws.Matching.{picked-le, picked-more, at, more-hit, more-miss, even}
+use Rattle.cd_jaro_meaning.specs.Inner.Jaro.{Counted}
+use Rattle.cd_jaro_meaning.proofs.Laws.Jaro.{counted}
+use Rattle.cd_jaro_meaning.proofs.Laws.Place.{place-free}
+use Rattle.cd_jaro_meaning.proofs.Laws.Matching.{picked-le, picked-more, at, more-hit, more-miss, even}
 
 take-same : (n k : ℕ) (v : Bool) → n ≤ k → take n (replicate k v) ≡ replicate n v
 take-same zero k v h = refl

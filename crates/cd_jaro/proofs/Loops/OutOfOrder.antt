@@ -11,7 +11,7 @@ use lib.Seq.{drop-cons}
 use lib.Dec.{eqb}
 use Rattle.base.specs.Inner.Numbers.{One}
 use Rattle.base.specs.Numbers.{bump}
-use Rattle.cd_jaro.specs.Jaro.{picked, differing}
+use Rattle.cd_jaro_meaning.specs.Jaro.{picked, differing}
 
 module _ (language : List ℕ) (taken : List Bool) (letters : List ℕ) where
   pub record Counting (out k j : ℕ) : Type 0 where

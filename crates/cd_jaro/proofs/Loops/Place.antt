@@ -3,18 +3,18 @@
 -- Assumes nothing.
 use Prim.Native.Nat.{ℕ, _+_, _-_, _/_, _≤_, _<_}
 use mathlib.Core.Path.{_≡_, refl, sym, _∙_}
-use mathlib.Core.Bool.{Bool, true, false, not, _&&_, and-false}
+use mathlib.Core.Bool.{Bool, true, false, not, and-false}
 use mathlib.Core.List.{List}
 use native.Mathlib.Omega.{arith}
 use lib.ListN.{length, getD, take, drop}
 use lib.Dec.{ltb}
 use borrow.Author.Tests.{ne-eqb, eq-eqb, ltb-true, ltb-false}
 use Rattle.base.specs.Tests.{within}
-use Rattle.base.proofs.Laws.Tests.{within-below, within-above, within-yes, and-r, by-test, cond-both, split}
-use Rattle.base.proofs.Laws.First.{first-is, first-none, first-found}
+use Rattle.base.proofs.Laws.Tests.{within-below, within-above, within-yes, by-test, cond-both, split}
+use Rattle.base.proofs.Laws.First.{first-is, first-none}
 use Rattle.base.specs.Among.{among}
 use Rattle.base.proofs.Laws.In.{among-none}
-use Rattle.cd_jaro.specs.Jaro.{window, serves, place}
+use Rattle.cd_jaro_meaning.specs.Jaro.{window, serves, place}
 use Rattle.cd_jaro.specs.Inner.Place.{least}
 
 least-right : (a b : ℕ) → least a b ≤ b
@@ -95,16 +95,6 @@ module _ (language : List ℕ) (taken : List Bool) (x i w : ℕ) where
       no : (b : Bool) → not b ≡ true → b ≡ false
       no true z = sym z
       no false z = refl
-
--- where letters are taken, they were free
-free-of : (a t e : Bool) → (a && (not t && e)) ≡ true → t ≡ false
-free-of a true e h = sym (and-r a false h)
-free-of a false e h = refl
-
-pub place-free : (language : List ℕ) (taken : List Bool) (x i w : ℕ) → place language taken x i w < length language
-    → getD taken (place language taken x i w) false ≡ false
-unfolding place serves
-place-free language taken x i w h = free-of (within (i - w) (i + w) _) _ _ (first-found (serves language taken x i w) (length language) h)
 
 pub window-le : (a b : ℕ) → window a b ≤ (a + b) / 2
 unfolding window

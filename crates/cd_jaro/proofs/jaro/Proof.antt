@@ -1,7 +1,7 @@
 -- The three terms are `over`'s, added and divided as the definition does; m and t are `matched`'s.
 -- Assumes nothing.
 use borrow.Author.Needs.{needs}
-use Rattle.cd_jaro.proofs.Laws.Jaro.{jaro-none, jaro-some}
+use Rattle.cd_jaro_meaning.proofs.Laws.Jaro.{jaro-none, jaro-some}
 use Rattle.cd_jaro.proofs.jaro.Statement.{statement}
 use Rattle.cd_jaro.proofs.jaro.Tie as tie
 

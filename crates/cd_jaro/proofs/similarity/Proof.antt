@@ -3,8 +3,8 @@
 use mathlib.Core.Path.{ap, _∙_}
 use borrow.Author.Needs.{needs}
 use Rattle.f32_nearest.specs.Nearest.{nearestF32}
-use Rattle.cd_jaro.specs.Similarity.{similarity}
-use Rattle.cd_jaro.proofs.Laws.Similarity.{jaro-narrowable}
+use Rattle.cd_jaro_meaning.specs.Similarity.{similarity}
+use Rattle.cd_jaro_meaning.proofs.Laws.Similarity.{jaro-narrowable}
 use Rattle.cd_jaro.proofs.similarity.Statement.{statement}
 use Rattle.cd_jaro.proofs.similarity.Tie as tie
 

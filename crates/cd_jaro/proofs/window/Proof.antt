@@ -2,7 +2,7 @@
 use mathlib.Core.Path.{_∙_}
 use borrow.Author.Tests.{lt-ltb, le-ltb}
 use borrow.Author.Needs.{needs}
-use Rattle.cd_jaro.specs.Jaro.{window}
+use Rattle.cd_jaro_meaning.specs.Jaro.{window}
 use Rattle.cd_jaro.proofs.window.Statement.{statement}
 use Rattle.cd_jaro.proofs.window.Tie as tie
 

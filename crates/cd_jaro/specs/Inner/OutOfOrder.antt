@@ -6,7 +6,7 @@ use mathlib.Core.Bool.{Bool}
 use mathlib.Core.List.{List}
 use lib.ListN.{length}
 use Rattle.base.specs.Limits.{LANGUAGE-LETTERS}
-use Rattle.cd_jaro.specs.Jaro.{picked}
+use Rattle.cd_jaro_meaning.specs.Jaro.{picked}
 
 -- what `out_of_order` is told: a flag for each letter, and as many letters as flags that are set
 pub record Paired (language : List ℕ) (taken : List Bool) (letters : List ℕ) : Type 0 where

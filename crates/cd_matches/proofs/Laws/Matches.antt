@@ -14,7 +14,7 @@ use Rattle.base.specs.Inner.Limits.{MOST-LETTERS}
 use Rattle.base.specs.Limits.{MOST-INCLUDED}
 use Rattle.base.proofs.Laws.Tests.{by-bool, split}
 use Rattle.base.proofs.Laws.In.{at-in}
-use Rattle.cd_jaro.proofs.Laws.Similarity.{similarity-good}
+use Rattle.cd_jaro_meaning.proofs.Laws.Similarity.{similarity-good}
 use Rattle.cd_languages.specs.Languages.{languages, numberOf, firstRecord}
 use Rattle.cd_languages.specs.Inner.Languages.{goodLanguages}
 use Rattle.cd_languages.proofs.Laws.Languages.{good-most, first-record-has, first-record-before}

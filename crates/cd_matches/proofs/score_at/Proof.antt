@@ -5,7 +5,7 @@ use denote.Ref.{now}
 use Rattle.cd_matches.proofs.Laws.Records.{read-front, read-count, read-most, read-room}
 use borrow.Author.Needs.{needs}
 use Rattle.cd_matches.proofs.score_at.Statement.{statement}
-use Rattle.cd_jaro.specs.Similarity as jaro
+use Rattle.cd_jaro_meaning.specs.Similarity as jaro
 use Rattle.cd_matches.proofs.score_at.Tie as tie
 
 slice-reshare-prefix-similarity : tie.Need-slice-reshare-prefix-similarity

@@ -33,7 +33,7 @@ use Rattle.cd_languages.proofs.Laws.Check.{free-good, good-free}
 use Rattle.cd_languages.proofs.Laws.Included.{free-permitted, permitted-free}
 use Rattle.cd_ranking.specs.declared.CoherenceMatch.{CoherenceMatch}
 use Rattle.cd_ranking.specs.Ranking.{byValue, refusedRanking}
-use Rattle.cd_taken.specs.Unclassed.{unclassedAt, firstUnclassed}
+use Rattle.cd_taken_meaning.specs.Unclassed.{unclassedAt, firstUnclassed}
 use Rattle.ratio.specs.Finite.{isFinite, notFinite}
 use Rattle.cd_meaning.specs.Causes.{tooLong, noRoom, noClass, ofText, ofLanguages, ofTables, causes}
 use Rattle.cd_meaning.specs.Coherence.{DEFAULT-THRESHOLD, matchesOf, answered, coherenceRatio, coherenceRatioDefault}

@@ -26,7 +26,7 @@ use Rattle.cd_languages.specs.Included.{badIncluded}
 use Rattle.cd_languages.proofs.Laws.Included.{free-permitted}
 use Rattle.cd_languages.specs.Languages.{languages}
 use Rattle.ratio.specs.Finite.{isFinite, notFinite}
-use Rattle.cd_taken.specs.Unclassed.{firstUnclassed}
+use Rattle.cd_taken_meaning.specs.Unclassed.{firstUnclassed}
 use Rattle.cd_meaning.specs.Causes.{tooLong, noRoom, noClass, ofText, ofLanguages, ofTables, causes, causesDefault}
 use Rattle.cd_meaning.specs.Inner.Causes.{Free}
 

@@ -28,9 +28,9 @@ use Rattle.cd_layers.specs.Inner.Split.{Split}
 use Rattle.cd_layers.proofs.Laws.Split.{split-size, split-numbers, split-back}
 use Rattle.cd_letters.specs.Letters.{ranking}
 use Rattle.cd_letters.specs.Inner.LayerLetters.{layerLetters}
-use Rattle.cd_taken.specs.Taken.{takenChars}
-use Rattle.cd_taken.specs.Inner.Area.{slotsOf, rangesOf, lowersOf, filled, FewUndotted}
-use Rattle.cd_taken.proofs.Laws.Area.{split-taken, ranges-below, ranges-length, lowers-length, lowers-undotted, slots-few, slots-room, filled-ranges, filled-lowers, filled-back, filled-size}
+use Rattle.cd_taken_meaning.specs.Taken.{takenChars}
+use Rattle.cd_taken_meaning.specs.Inner.Area.{slotsOf, rangesOf, lowersOf, filled, FewUndotted}
+use Rattle.cd_taken_meaning.proofs.Laws.Area.{split-taken, ranges-below, ranges-length, lowers-length, lowers-undotted, slots-few, slots-room, filled-ranges, filled-lowers, filled-back, filled-size}
 use Rattle.cd_best.specs.declared.Standing.{Standing}
 use Rattle.cd_best.specs.Kept.{Hit}
 use Rattle.cd_best.specs.Inner.Standing.{bestAt, start}

@@ -18,7 +18,7 @@ use Rattle.cd_layers.specs.Inner.Numbers.{numbers, keysOf}
 use Rattle.cd_work.specs.Inner.Layout.{numbersStart}
 use Rattle.cd_work.specs.Inner.Parts.{numbersIn}
 use Rattle.cd_layers.specs.Inner.Split.{Split}
-use Rattle.cd_taken.specs.Inner.Area.{slotsOf, filled}
+use Rattle.cd_taken_meaning.specs.Inner.Area.{slotsOf, filled}
 use Rattle.cd_best.specs.Kept.{Hit}
 use Rattle.cd_best.specs.Inner.Known.{Known}
 use Rattle.cd_ranking.specs.declared.Ranking.{Ranking}

@@ -17,8 +17,8 @@ use Rattle.ratio.specs.Inner.Finite.{Plain}
 use Rattle.cd_layers.specs.Layers.{Layer, alphaUnicodeSplit}
 use Rattle.cd_layers.proofs.Laws.Joining.{lettersAt}
 use Rattle.cd_letters.specs.Letters.{ranking}
-use Rattle.cd_taken.specs.Taken.{takenChars}
-use Rattle.cd_taken.specs.Accents.{someAccented}
+use Rattle.cd_taken_meaning.specs.Taken.{takenChars}
+use Rattle.cd_taken_meaning.specs.Accents.{someAccented}
 use Rattle.cd_matches.specs.Matches.{scoresOf}
 use Rattle.cd_matches.specs.Inner.LayerRead.{layerRead}
 use Rattle.cd_matches.proofs.Laws.Matches.{match-known}

@@ -13,7 +13,7 @@ use lib.ListN.{length, length-append}
 use Rattle.base.proofs.Laws.Tests.{by-bool, cond-both}
 use Rattle.cd_layers.specs.Layers.{Layer, alphaUnicodeSplit}
 use Rattle.cd_letters.specs.Letters.{ranking}
-use Rattle.cd_taken.specs.Taken.{takenChars}
+use Rattle.cd_taken_meaning.specs.Taken.{takenChars}
 use Rattle.cd_matches.specs.Matches.{scoresOf}
 use Rattle.cd_best.specs.Kept.{ENOUGH, Hit, sufficientIn, keptIn}
 use Rattle.cd_best.proofs.Laws.Kept.{kept-later}

@@ -26,9 +26,9 @@ use Rattle.cd_letters.specs.Inner.Ranked.{Ranked}
 use Rattle.cd_letters.proofs.Laws.Letters.{ranking-fewer}
 use Rattle.cd_letters.proofs.Laws.LayerLetters.{letters-size, letters-same, letters-others}
 use Rattle.cd_letters.proofs.Laws.Ranked.{ranked-few, ranked-order}
-use Rattle.cd_taken.specs.Taken.{DOT-ABOVE}
-use Rattle.cd_taken.specs.Accents.{someAccented}
-use Rattle.cd_taken.specs.Inner.Area.{FewUndotted}
+use Rattle.cd_taken_meaning.specs.Taken.{DOT-ABOVE}
+use Rattle.cd_taken_meaning.specs.Accents.{someAccented}
+use Rattle.cd_taken_meaning.specs.Inner.Area.{FewUndotted}
 use Rattle.cd_matches.specs.Inner.LayerRead.{layerRead}
 use Rattle.cd_matches.proofs.Laws.Matches.{layer-few}
 use Rattle.cd_best.specs.declared.Standing.{Standing}

@@ -9,7 +9,7 @@ use lib.Ieee.{Float}
 use lib.ListN.{length}
 use Rattle.cd_layers.specs.Layers.{Layer}
 use Rattle.cd_letters.specs.Letters.{ranking}
-use Rattle.cd_taken.specs.Accents.{someAccented}
+use Rattle.cd_taken_meaning.specs.Accents.{someAccented}
 use Rattle.cd_matches.specs.Inner.LayerRead.{layerRead}
 use Rattle.cd_best.specs.declared.Standing.{Standing}
 

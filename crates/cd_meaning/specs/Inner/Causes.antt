@@ -5,7 +5,7 @@ use mathlib.Core.List.{List}
 use lib.ListN.{length}
 use Rattle.base.specs.Limits.{LONGEST-RANKED, WORK-PER-POINT}
 use Rattle.classes.specs.Inner.Tables.{Tables}
-use Rattle.cd_taken.specs.Unclassed.{firstUnclassed}
+use Rattle.cd_taken_meaning.specs.Unclassed.{firstUnclassed}
 use Rattle.cd_meaning.specs.Inner.Comparable.{Comparable}
 
 -- what a call that is allowed has; `work` is how many words of work are lent

@@ -10,8 +10,8 @@ use borrow.Author.Tests.{eq-eqb, ne-eqb}
 use Rattle.base.specs.First.{first}
 use Rattle.base.specs.Inner.First.{firstFrom}
 use Rattle.base.proofs.Laws.First.{first-start, first-hit, first-miss, first-end}
-use Rattle.cd_merge.specs.Entries.{languageAt}
-use Rattle.cd_merge.specs.Merge.{isFirst}
+use Rattle.cd_merge_meaning.specs.Entries.{languageAt}
+use Rattle.cd_merge_meaning.specs.Merge.{isFirst}
 
 abbrev like : List ℕ → ℕ → ℕ → Bool
 like list i k = eqb (languageAt list k) (languageAt list i)

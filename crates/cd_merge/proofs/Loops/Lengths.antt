@@ -9,9 +9,9 @@ use native.Mathlib.Omega.{arith}
 use lib.ListN.{length, getD, drop, drop-of-length-le}
 use lib.Seq.{drop-cons}
 use borrow.Author.Tests.{lt-ltb, le-ltb}
-use Rattle.cd_merge.specs.Answer.{MOST-RANKINGS, LONGEST-RANKING, over, total}
-use Rattle.cd_merge.specs.Inner.Good.{MOST-ENTRIES}
-use Rattle.cd_merge.proofs.Laws.Check.{total-small}
+use Rattle.cd_merge_meaning.specs.Answer.{MOST-RANKINGS, LONGEST-RANKING, over, total}
+use Rattle.cd_merge_meaning.specs.Inner.Good.{MOST-ENTRIES}
+use Rattle.cd_merge_meaning.proofs.Laws.Check.{total-small}
 
 -- none of the first i is over 63
 pub record Within (l : List ℕ) (i : ℕ) : Type 0 where

@@ -9,10 +9,10 @@ use lib.IntN.{pos}
 use lib.Ieee.{Float, binary32, div, ofInt}
 use borrow.Author.Tests.{eq-eqb, ne-eqb}
 use Rattle.ratio.specs.Rounded.{ZERO, _⊕_}
-use Rattle.cd_merge.specs.Entries.{entries, languageAt, scoreAt}
-use Rattle.cd_merge.specs.Merge.{sumOf, countOf, mean}
-use Rattle.cd_merge.specs.Inner.Good.{Good, MOST-ENTRIES}
-use Rattle.cd_merge.proofs.Laws.Means.{count-few}
+use Rattle.cd_merge_meaning.specs.Entries.{entries, languageAt, scoreAt}
+use Rattle.cd_merge_meaning.specs.Merge.{sumOf, countOf, mean}
+use Rattle.cd_merge_meaning.specs.Inner.Good.{Good, MOST-ENTRIES}
+use Rattle.cd_merge_meaning.proofs.Laws.Means.{count-few}
 
 pub record Summing (list : List ℕ) (language : ℕ) (sum : Float) (count i : ℕ) : Type 0 where
   pub below : i ≤ entries list

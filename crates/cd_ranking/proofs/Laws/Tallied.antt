@@ -8,7 +8,7 @@ use native.Mathlib.Omega.{arith}
 use lib.Ieee.{Float}
 use Rattle.base.specs.Limits.{MOST-LANGUAGES}
 use Rattle.base.proofs.Laws.In.{In}
-use Rattle.cd_jaro.specs.Inner.Similarity.{Good}
+use Rattle.cd_jaro_meaning.specs.Inner.Similarity.{Good}
 use Rattle.cd_languages.specs.Languages.{languages}
 use Rattle.cd_order.specs.Sorting.{inOrder}
 use Rattle.cd_order.specs.Chosen.{passing}

@@ -12,7 +12,7 @@ use lib.Dec.{eqb}
 use borrow.Author.Tests.{eqb-true}
 use Rattle.classes.specs.Lookup.{classOf}
 use Rattle.cd_letters.specs.Letters.{popularBefore, putByCount, allPlaced, ordered, ranking, count}
-use Rattle.cd_taken.specs.Accents.{isAccentuated, someAccented}
+use Rattle.cd_taken_meaning.specs.Accents.{isAccentuated, someAccented}
 
 module _ (classes letters : List ℕ) where
   -- what the letters from i on say is what all of them say

@@ -16,10 +16,10 @@ use Rattle.classes.specs.Lookup.{classOf}
 use Rattle.cd_work.specs.Inner.Layout.{lettersStart, lacksStart}
 use Rattle.cd_work.proofs.Loops.Texting.{Texting, texting-start, texting-size, texting-inside, texting-behind, texting-more, texting-end}
 use Rattle.cd_letters.specs.Letters.{count}
-use Rattle.cd_taken.specs.declared.Letter.{Letter}
-use Rattle.cd_taken.specs.Taken.{CAPITAL-I-WITH-DOT, DOT-ABOVE}
-use Rattle.cd_taken.specs.Inner.Area.{slotsOf, letterOf, inSlots, rangesOf, lowersOf, filled}
-use Rattle.cd_taken.proofs.Laws.Area.{ranges-length, lowers-length}
+use Rattle.cd_taken_meaning.specs.declared.Letter.{Letter}
+use Rattle.cd_taken_meaning.specs.Taken.{CAPITAL-I-WITH-DOT, DOT-ABOVE}
+use Rattle.cd_taken_meaning.specs.Inner.Area.{slotsOf, letterOf, inSlots, rangesOf, lowersOf, filled}
+use Rattle.cd_taken_meaning.proofs.Laws.Area.{ranges-length, lowers-length}
 
 -- what stands in a list from k on
 module _ (l : List ℕ) (k x : ℕ) (behind : List ℕ) (e : drop k l ≡ x ∷ behind) where

@@ -5,7 +5,7 @@ use native.Mathlib.Omega.{arith}
 use lib.ListN.{length}
 use Rattle.base.specs.Inner.First.{firstFrom}
 use Rattle.base.proofs.Laws.First.{first-start, first-hit, first-miss, first-end}
-use Rattle.cd_taken.specs.Unclassed.{unclassedAt, firstUnclassed}
+use Rattle.cd_taken_meaning.specs.Unclassed.{unclassedAt, firstUnclassed}
 use borrow.Author.Needs.{needs}
 use Rattle.cd_taken.proofs.first_unclassed.Statement.{statement}
 use Rattle.cd_taken.proofs.first_unclassed.Tie as tie

@@ -1,6 +1,6 @@
 -- By what the lookup finds. Assumes nothing.
 use mathlib.Core.Path.{sym, _∙_}
-use Rattle.cd_taken.specs.Accents.{isAccentuated}
+use Rattle.cd_taken_meaning.specs.Accents.{isAccentuated}
 use borrow.Author.Needs.{needs}
 use Rattle.cd_taken.proofs.is_accentuated.Statement.{statement}
 use Rattle.cd_taken.proofs.is_accentuated.Tie as tie

@@ -1,5 +1,5 @@
 -- Bit 24 and a range, as in the definition. Assumes nothing.
-use Rattle.cd_taken.specs.Taken.{isTaken}
+use Rattle.cd_taken_meaning.specs.Taken.{isTaken}
 use borrow.Author.Needs.{needs}
 use Rattle.cd_taken.proofs.is_taken.Statement.{statement}
 use Rattle.cd_taken.proofs.is_taken.Tie as tie

@@ -1,6 +1,6 @@
 -- By what the lookup finds; a character that is its own lower case has the class that was found. Assumes nothing.
 use mathlib.Core.Path.{sym, _∙_}
-use Rattle.cd_taken.proofs.Laws.Unclassed.{unclassed-none, unclassed-taken, unclassed-not-taken, unclassed-itself}
+use Rattle.cd_taken_meaning.proofs.Laws.Unclassed.{unclassed-none, unclassed-taken, unclassed-not-taken, unclassed-itself}
 use borrow.Author.Needs.{needs}
 use Rattle.cd_taken.proofs.is_unclassed.Statement.{statement}
 use Rattle.cd_taken.proofs.is_unclassed.Tie as tie

@@ -1,6 +1,6 @@
 -- By what the lookup finds, 0 and 0 where it is not taken. Assumes nothing.
 use mathlib.Core.Path.{sym, _∙_}
-use Rattle.cd_taken.proofs.Laws.Area.{letter-none, letter-at}
+use Rattle.cd_taken_meaning.proofs.Laws.Area.{letter-none, letter-at}
 use borrow.Author.Needs.{needs}
 use Rattle.cd_taken.proofs.letter_of.Statement.{statement}
 use Rattle.cd_taken.proofs.letter_of.Tie as tie

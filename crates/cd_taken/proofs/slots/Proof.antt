@@ -2,7 +2,7 @@
 use native.Mathlib.Omega.{arith}
 use denote.Ref.{now}
 use Rattle.cd_letters.proofs.Laws.Letters.{count-few}
-use Rattle.cd_taken.specs.Taken.{CAPITAL-I-WITH-DOT}
+use Rattle.cd_taken_meaning.specs.Taken.{CAPITAL-I-WITH-DOT}
 use borrow.Author.Needs.{needs}
 use Rattle.cd_taken.proofs.slots.Statement.{statement}
 use Rattle.cd_taken.proofs.slots.Tie as tie

@@ -1,7 +1,7 @@
 -- The first letter is asked for, and of U+0130 the second. Assumes nothing.
 use mathlib.Core.Path.{sym, _∙_}
 use borrow.Author.Tests.{eq-eqb, ne-eqb}
-use Rattle.cd_taken.proofs.Laws.Unclassed.{missing-first, missing-second, missing-neither}
+use Rattle.cd_taken_meaning.proofs.Laws.Unclassed.{missing-first, missing-second, missing-neither}
 use borrow.Author.Needs.{needs}
 use Rattle.cd_taken.proofs.some_missing.Statement.{statement}
 use Rattle.cd_taken.proofs.some_missing.Tie as tie

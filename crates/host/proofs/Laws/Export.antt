@@ -18,9 +18,9 @@ use Rattle.classes.specs.Lookup.{classOf, missing}
 use Rattle.classes.proofs.Laws.Lookup.{no-scalar}
 use Rattle.utf8_table.specs.Encoding.{encodeAll, scalars}
 use Rattle.utf8.specs.Answer as read
-use Rattle.utf8_write.specs.Answer as written
-use Rattle.utf8_write.proofs.Laws.Answer.{writes}
-use Rattle.utf8_write.proofs.Laws.RoundTrips.{written-read}
+use Rattle.utf8_write_meaning.specs.Answer as written
+use Rattle.utf8_write_meaning.proofs.Laws.Answer.{writes}
+use Rattle.utf8_write_meaning.proofs.Laws.RoundTrips.{written-read}
 use Rattle.md_meaning.specs.declared.Score.{Score}
 use Rattle.md_meaning.specs.declared.Scored.{Scored}
 use Rattle.md_meaning.specs.declared.Scored.the-variants.{Refused, Score as Told}

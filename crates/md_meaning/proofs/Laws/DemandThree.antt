@@ -15,8 +15,8 @@ use Rattle.base.specs.Limits.{LONGEST-TEXT}
 use Rattle.md_eight.proofs.Loops.Detectors.{fractions-proper}
 use Rattle.ratio.specs.Inner.Eight.{EachProper}
 use Rattle.ratio.specs.Finite.{Finite}
-use Rattle.ratio.specs.Demand.{Reached, Missed}
-use Rattle.ratio.proofs.Laws.Demand.{near, reached, missed}
+use Rattle.ratio_demand.specs.Demand.{Reached, Missed}
+use Rattle.ratio_demand.proofs.Laws.Demand.{near, reached, missed}
 use Rattle.md_meaning.specs.declared.Limit.the-variants.{Threshold}
 use Rattle.md_meaning.specs.declared.Score.{Score}
 use Rattle.md_meaning.specs.declared.Scored.the-variants.{Score as Told}

@@ -17,7 +17,7 @@ use Rattle.md_eight.specs.declared.Detectors.{Detectors}
 use Rattle.md_eight.specs.Detectors.{fractions}
 use Rattle.md_eight.proofs.Loops.Detectors.{Within, fractions-proper, AtMost, ratios-at-most}
 use Rattle.ratio.proofs.Laws.Rounded.{ratios-plain}
-use Rattle.ratio.proofs.Laws.Demand.{sum-plain}
+use Rattle.ratio_demand.proofs.Laws.Demand.{sum-plain}
 use Rattle.md_meaning.specs.declared.Limit.{Limit}
 use Rattle.md_meaning.specs.declared.Limit.the-variants.{Threshold}
 use Rattle.md_meaning.specs.declared.Score.{Score}

@@ -17,7 +17,7 @@ use Rattle.base.specs.Inner.All.{All}
 use Rattle.base.proofs.Laws.First.{first-within, first-found, first-before, each-all, each-at}
 use Rattle.base.proofs.Laws.Tests.{by-bool, by-test, split}
 use Rattle.ratio.specs.declared.Ratios.{Ratios}
-use Rattle.ratio.specs.Demand.{ONE}
+use Rattle.ratio.specs.Parts.{ONE}
 use Rattle.ratio.specs.Fraction.{nothing}
 use Rattle.ratio.specs.Rounded.{ZERO}
 use Rattle.ratio.specs.Eight.{DETECTORS, listRatios}

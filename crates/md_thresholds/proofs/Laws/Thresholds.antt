@@ -24,7 +24,7 @@ use Rattle.base.specs.declared.Cause.{Cause}
 use Rattle.base.specs.declared.Cause.the-variants.{Allowed}
 use Rattle.ratio.specs.Finite.{isFinite, notFinite}
 use Rattle.base.specs.Limits.{LONGEST-TEXT}
-use Rattle.ratio.specs.Demand.{ONE}
+use Rattle.ratio.specs.Parts.{ONE}
 use Rattle.ratio.specs.Inner.Finite.{Plain}
 use Rattle.ratio.specs.declared.Fraction.{Fraction}
 use Rattle.ratio.specs.Fraction.{nothing, fractionOf}
@@ -33,7 +33,7 @@ use Rattle.ratio.specs.Inner.Eight.{EachSmall}
 use Rattle.ratio.proofs.Laws.Comparing.{le-is, lt-not-le}
 use Rattle.ratio.proofs.Laws.Finite.{plain-of}
 use Rattle.ratio.proofs.Laws.Fraction.{fraction-proper, fraction-bound}
-use Rattle.ratio.proofs.Laws.Demand.{sum-plain}
+use Rattle.ratio_demand.proofs.Laws.Demand.{sum-plain}
 use Rattle.md_eight.specs.Detectors.{fractions, counts, ratios}
 use Rattle.ratio.specs.Shown.{shown, eightShown}
 use Rattle.md_eight.specs.Bounds.{CountsAtMost}

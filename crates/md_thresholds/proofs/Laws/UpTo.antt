@@ -17,7 +17,7 @@ use lib.Ieee.Scale.{grid, round-val}
 use lib.IntN.{pos}
 use borrow.Author.Tests.{leb-true, le-leb}
 use Rattle.ratio.specs.declared.Fraction.{Fraction}
-use Rattle.ratio.specs.Demand.{ONE}
+use Rattle.ratio.specs.Parts.{ONE}
 use Rattle.ratio.specs.Rounded.{rounded, _⊕_}
 use Rattle.ratio.specs.Inner.Fraction.{MOST-NUM, Small, Proper}
 use Rattle.ratio.proofs.Laws.Comparing.{le-is}

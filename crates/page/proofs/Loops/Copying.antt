@@ -8,8 +8,8 @@ use native.Mathlib.Omega.{arith}
 use lib.ListN.{length, getD, set}
 use Rattle.base.specs.Put.{put}
 use Rattle.base.proofs.Loops.Putting.{Putting, putting-start, putting-length, putting-room, putting-more, putting-end}
-use Rattle.page.specs.Inner.Tables.{looked}
-use Rattle.page.proofs.Laws.Lists.{length-map, getD-map}
+use Rattle.page_meaning.specs.Inner.Tables.{looked}
+use Rattle.page_meaning.proofs.Laws.Lists.{length-map, getD-map}
 
 pub record Copying (table l out after : List ℕ) (i : ℕ) : Type 0 where
   pub so-far : Putting out 0 (looked table l) after i

@@ -11,10 +11,10 @@ use lib.Seq.{getD-set-same, getD-set-other}
 use lib.Dec.{eqb}
 use borrow.Author.Tests.{eqb-true, eqb-false}
 use Rattle.base.proofs.Laws.Tests.{by-bool, split}
-use Rattle.page.specs.Page.{BYTES, UNUSED, pointOf, byteOf, lacks}
-use Rattle.page.specs.Inner.Good.{Good}
-use Rattle.page.specs.Inner.Tables.{Inverse}
-use Rattle.page.proofs.Laws.Page.{point-once, used-has, has-used, has-byte, point-of-byte}
+use Rattle.page_meaning.specs.Page.{BYTES, UNUSED, pointOf, byteOf, lacks}
+use Rattle.page_meaning.specs.Inner.Good.{Good}
+use Rattle.page_meaning.specs.Inner.Tables.{Inverse}
+use Rattle.page_meaning.proofs.Laws.Page.{point-once, used-has, has-used, has-byte, point-of-byte}
 
 pub record Inverting (page inverse : List ℕ) (b : ℕ) : Type 0 where
   pub size : length inverse ≡ 65536

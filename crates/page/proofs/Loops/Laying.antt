@@ -6,8 +6,8 @@ use native.Mathlib.Omega.{arith}
 use lib.ListN.{length, getD, set, replicate, length-set, length-replicate}
 use lib.Seq.{getD-set-same, getD-set-other}
 use Rattle.base.proofs.Laws.Tests.{split}
-use Rattle.page.specs.Page.{BYTES, pointOf}
-use Rattle.page.specs.Inner.Tables.{Points}
+use Rattle.page_meaning.specs.Page.{BYTES, pointOf}
+use Rattle.page_meaning.specs.Inner.Tables.{Points}
 
 pub record Laying (page points : List ℕ) (b : ℕ) : Type 0 where
   pub size : length points ≡ BYTES

@@ -13,9 +13,9 @@ use Rattle.base.specs.Among.{among}
 use Rattle.base.specs.Inner.First.{firstFrom}
 use Rattle.base.proofs.Laws.First.{first-start, first-hit, first-miss, first-end}
 use Rattle.base.proofs.Laws.Tests.{by-bool, split}
-use Rattle.page.specs.Page.{PAGE-ENTRIES, badEntry, firstBad}
+use Rattle.page_meaning.specs.Page.{PAGE-ENTRIES, badEntry, firstBad}
 use Rattle.page.specs.Inner.Marks.{MARKS}
-use Rattle.page.proofs.Laws.Lists.{among-absent}
+use Rattle.page_meaning.proofs.Laws.Lists.{among-absent}
 
 pub record Marking (page : List ℕ) (marks : List Bool) (i : ℕ) : Type 0 where
   pub size : length marks ≡ MARKS

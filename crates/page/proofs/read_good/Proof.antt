@@ -1,9 +1,9 @@
 -- The points that were laid out are the page's, so that what was found and copied by them is what the definitions say. Assumes nothing.
 use native.Mathlib.Omega.{arith}
 use borrow.Author.Needs.{needs}
-use Rattle.page.specs.Page.{BYTES}
-use Rattle.page.proofs.Laws.Tables.{Below, points-are}
-use Rattle.page.proofs.Laws.Answer.{unused, short-read, reads}
+use Rattle.page_meaning.specs.Page.{BYTES}
+use Rattle.page_meaning.proofs.Laws.Tables.{Below, points-are}
+use Rattle.page_meaning.proofs.Laws.Answer.{unused, short-read, reads}
 use Rattle.page.proofs.read_good.Statement.{statement}
 use Rattle.page.proofs.read_good.Tie as tie
 

@@ -2,8 +2,8 @@
 use mathlib.Core.Path.{_≡_, sym, _∙_}
 use native.Mathlib.Omega.{arith}
 use borrow.Author.Needs.{needs}
-use Rattle.page.proofs.Laws.Tables.{Below, lacking-at, text-small, bytes-are}
-use Rattle.page.proofs.Laws.Answer.{lacking, short-write, writes}
+use Rattle.page_meaning.proofs.Laws.Tables.{Below, lacking-at, text-small, bytes-are}
+use Rattle.page_meaning.proofs.Laws.Answer.{lacking, short-write, writes}
 use Rattle.page.proofs.write_good.Statement.{statement}
 use Rattle.page.proofs.write_good.Tie as tie
 

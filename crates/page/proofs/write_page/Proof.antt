@@ -1,7 +1,7 @@
 -- A text that is too long, then a bad page; under a good one `write_good` decides. Assumes nothing.
 use mathlib.Core.Path.{sym, _∙_}
 use borrow.Author.Needs.{needs}
-use Rattle.page.proofs.Laws.Answer.{allowed-good, over-write, bad-write}
+use Rattle.page_meaning.proofs.Laws.Answer.{allowed-good, over-write, bad-write}
 use Rattle.page.proofs.write_page.Statement.{statement}
 use Rattle.page.proofs.write_page.Tie as tie
 

@@ -18,7 +18,7 @@ use Rattle.ratio.specs.declared.Fraction.{Fraction}
 use Rattle.ratio.specs.Inner.Fraction.{MOST-DEN, Proper}
 use Rattle.ratio.specs.Fraction.{countsOf, nothing, fractionOf, atLeast}
 use Rattle.ratio.specs.Rounded.{rounded}
-use Rattle.ratio.specs.Demand.{ONE}
+use Rattle.ratio.specs.Parts.{ONE}
 use Rattle.ratio.specs.Finite.{isFinite}
 use Rattle.ratio.proofs.Laws.Once.{U, Once}
 use Rattle.ratio.proofs.Laws.Comparing.{test-is, le-is, lt-not-le, ltb-not}

@@ -11,7 +11,7 @@ use lib.Ieee.{Float, nan, inf, fin, binary32, isNan, ofBits, le, lt}
 use lib.Ieee.Bits.{is-true}
 use lib.Ieee.Exact.{HasValue}
 use lib.Ieee.Order.{le-of-values}
-use Rattle.ratio.specs.Demand.{ONE}
+use Rattle.ratio.specs.Parts.{ONE}
 use Rattle.ratio.specs.Finite.{isFinite}
 use Rattle.ratio.specs.Inner.Finite.{Plain}
 

@@ -12,7 +12,7 @@ use lib.Ieee.{size, binary32}
 use lib.Ieee.Digits.{size-reaches}
 use lib.Ieee.Order.{drop, kept}
 use lib.Ieee.Scale.{grid, normal-of-fraction}
-use Rattle.ratio.specs.Demand.{ONE}
+use Rattle.ratio.specs.Parts.{ONE}
 use Rattle.ratio.proofs.Laws.Once.{Once, Half, once-cancel, closest-half, half-whole, half-once}
 
 -- a number of 24 digits or more, of which k are dropped, is 2 ^ 23 units of 2 ^ k at least

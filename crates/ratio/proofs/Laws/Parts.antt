@@ -11,7 +11,7 @@ use lib.Ieee.{Float, nan, inf, fin, binary32, up, down, fits, ofBits}
 use lib.Ieee.Digits.{back}
 use lib.Ieee.Exact.{HasValue}
 use lib.Ieee.Fits.{down-pos, and-l, and-r}
-use Rattle.ratio.specs.Demand.{ONE, signed, parts}
+use Rattle.ratio.specs.Parts.{ONE, signed, parts}
 use Rattle.ratio.specs.Finite.{isFinite}
 
 pub parts-is : (x : Float) (s : Bool) (w : ℕ) → HasValue x s w ONE → parts x ≡ signed s w

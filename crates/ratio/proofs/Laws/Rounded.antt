@@ -24,7 +24,7 @@ use Rattle.ratio.proofs.Laws.Fraction.{fraction-proper, fraction-bound}
 use Rattle.ratio.specs.Rounded.{rounded}
 use Rattle.ratio.specs.Eight.{ratios, Fractions}
 use Rattle.ratio.specs.Inner.Eight.{EachPlain, listFractions, EachProper}
-use Rattle.ratio.specs.Demand.{ONE}
+use Rattle.ratio.specs.Parts.{ONE}
 use Rattle.ratio.specs.Inner.Finite.{Plain}
 use Rattle.ratio.proofs.Laws.Finite.{plain-of}
 use Rattle.ratio.proofs.Laws.Once.{Once}

@@ -22,7 +22,7 @@ use Rattle.ratio.specs.declared.EightCounts.{EightCounts}
 use Rattle.ratio.specs.Fraction.{shareOf, nothing, fractionOf}
 use Rattle.ratio.specs.Rounded.{rounded, ZERO}
 use Rattle.ratio.specs.Eight.{fractionsOf, ratios}
-use Rattle.ratio.specs.Demand.{ONE}
+use Rattle.ratio.specs.Parts.{ONE}
 use Rattle.ratio.specs.Shown.{shown, eightShown, cutOff, ratioFrom, Tells, Shares, EachTells, EachShares}
 use Rattle.ratio.specs.Inner.Fraction.{Small, Proper}
 use Rattle.ratio.specs.Inner.Eight.{EachSmall}

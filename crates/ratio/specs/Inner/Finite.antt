@@ -6,7 +6,7 @@ use mathlib.Core.Bool.{true, false, not}
 use lib.Dec.{T}
 use lib.Ieee.{Float, binary32, isNan, ofBits, le}
 use lib.Ieee.Exact.{HasValue}
-use Rattle.ratio.specs.Demand.{ONE}
+use Rattle.ratio.specs.Parts.{ONE}
 use Rattle.ratio.specs.Finite.{isFinite}
 
 -- x is `size` parts of 2 ^ -149, with no minus sign; so it is finite, no NaN and not below +0.0

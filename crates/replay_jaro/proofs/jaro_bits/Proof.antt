@@ -1,6 +1,6 @@
 -- The measure is one that `nearest_f32` takes, so it is no NaN. Assumes nothing.
 use Rattle.f32_nearest.proofs.Laws.Nearest.{narrowable-real}
-use Rattle.cd_jaro.proofs.Laws.Similarity.{jaro-narrowable}
+use Rattle.cd_jaro_meaning.proofs.Laws.Similarity.{jaro-narrowable}
 use borrow.Author.Needs.{needs}
 use Rattle.replay_jaro.proofs.jaro_bits.Statement.{statement}
 use Rattle.replay_jaro.proofs.jaro_bits.Tie as tie

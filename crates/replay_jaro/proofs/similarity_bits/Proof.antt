@@ -1,5 +1,5 @@
 -- A similarity is no NaN. Assumes nothing.
-use Rattle.cd_jaro.proofs.Laws.Similarity.{similarity-good}
+use Rattle.cd_jaro_meaning.proofs.Laws.Similarity.{similarity-good}
 use borrow.Author.Needs.{needs}
 use Rattle.replay_jaro.proofs.similarity_bits.Statement.{statement}
 use Rattle.replay_jaro.proofs.similarity_bits.Tie as tie

@@ -1,7 +1,7 @@
 -- No ratio of proper fractions is a NaN, and neither is their sum. Assumes nothing.
 use Rattle.ratio.proofs.Laws.Fraction.{fractions-proper}
 use Rattle.ratio.proofs.Laws.Rounded.{ratios-plain}
-use Rattle.ratio.proofs.Laws.Demand.{sum-plain}
+use Rattle.ratio_demand.proofs.Laws.Demand.{sum-plain}
 use Rattle.md_eight.specs.declared.Detectors.{Detectors}
 use Rattle.md_eight.specs.Inner.Detectors.{Countable}
 use Rattle.md_eight.specs.Detectors.{counts, fractions, ratios}

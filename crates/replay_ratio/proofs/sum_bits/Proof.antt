@@ -1,6 +1,6 @@
 -- A sum of ratios is no NaN. Assumes nothing.
 use Rattle.ratio.proofs.Laws.Fraction.{fractions-proper}
-use Rattle.ratio.proofs.Laws.Demand.{sum-plain}
+use Rattle.ratio_demand.proofs.Laws.Demand.{sum-plain}
 use borrow.Author.Needs.{needs}
 use Rattle.replay_ratio.proofs.sum_bits.Statement.{statement}
 use Rattle.replay_ratio.proofs.sum_bits.Tie as tie

@@ -14,10 +14,10 @@ use Rattle.utf8_table.specs.Encoding.{encode, encodeAll, scalars}
 use Rattle.utf8_table.proofs.Laws.Encoding.{encode-1, encode-2, encode-3, encode-4, encode-size, scalar-top}
 use Rattle.utf8.specs.Inner.Ascii.{AsciiRun}
 use Rattle.utf8.proofs.Laws.Going.{run-length}
-use Rattle.utf8_write.specs.Inner.Below.{AllAscii}
+use Rattle.utf8_form.specs.Inner.Below.{AllAscii}
 use Rattle.utf8_write.specs.Inner.Part.{Part}
-use Rattle.utf8_write.proofs.Laws.Encoded.{scalar-at, encoded-next, encoded-run, encoded-part}
-use Rattle.utf8_write.proofs.Laws.Sequence.{one-put}
+use Rattle.utf8_write_meaning.proofs.Laws.Encoded.{scalar-at, encoded-next, encoded-run, encoded-part}
+use Rattle.utf8_form.proofs.Laws.Sequence.{one-put}
 
 pub record Writing (text old : List ℕ) (at : ℕ) (out : List ℕ) (i n : ℕ) : Type 0 where
   pub here : i ≤ length text

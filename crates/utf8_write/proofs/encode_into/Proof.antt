@@ -4,7 +4,7 @@ use Prim.Native.Nat.{_-_}
 use native.Mathlib.Omega.{arith}
 use lib.ListN.{length}
 use borrow.Author.Needs.{needs}
-use Rattle.utf8_write.proofs.Laws.Encoded.{scalars-part}
+use Rattle.utf8_write_meaning.proofs.Laws.Encoded.{scalars-part}
 use Rattle.utf8_write.proofs.Loops.Writing.{Writing, writing-start, writing-end, turn-less}
 use Rattle.utf8_write.proofs.Loops.Writing.{run-room, run-ascii, writing-run, part-room, writing-part}
 use Rattle.utf8_write.proofs.encode_into.Statement.{statement}

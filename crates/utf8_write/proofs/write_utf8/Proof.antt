@@ -3,8 +3,8 @@ use mathlib.Core.Path.{sym, _∙_}
 use native.Mathlib.Omega.{arith}
 use borrow.Author.Tests.{not-true, not-false}
 use borrow.Author.Needs.{needs}
-use Rattle.utf8_write.proofs.Laws.Encoded.{ill-within}
-use Rattle.utf8_write.proofs.Laws.Answer.{over-points, not-scalar, no-room, writes}
+use Rattle.utf8_write_meaning.proofs.Laws.Encoded.{ill-within}
+use Rattle.utf8_write_meaning.proofs.Laws.Answer.{over-points, not-scalar, no-room, writes}
 use Rattle.utf8_write.proofs.write_utf8.Statement.{statement}
 use Rattle.utf8_write.proofs.write_utf8.Tie as tie
 

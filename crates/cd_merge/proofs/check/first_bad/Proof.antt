@@ -6,8 +6,8 @@ use native.Mathlib.Omega.{arith}
 use borrow.Author.Needs.{needs}
 use Rattle.base.specs.Inner.First.{firstFrom}
 use Rattle.base.proofs.Laws.First.{first-start, first-hit, first-miss, first-end}
-use Rattle.cd_merge.specs.Entries.{entries, scoreAt}
-use Rattle.cd_merge.specs.Answer.{isScore, firstBad}
+use Rattle.cd_merge_meaning.specs.Entries.{entries, scoreAt}
+use Rattle.cd_merge_meaning.specs.Answer.{isScore, firstBad}
 use Rattle.cd_merge.proofs.check.first_bad.Statement.{statement}
 use Rattle.cd_merge.proofs.check.first_bad.Tie as tie
 

@@ -1,7 +1,7 @@
 -- Bits that are no NaN are those of a number, which is compared as the definition does. Assumes nothing.
 use mathlib.Core.Path.{refl, sym}
-use Rattle.cd_merge.specs.Answer.{isScore}
-use Rattle.cd_merge.proofs.Laws.Check.{nan-score, number-bits}
+use Rattle.cd_merge_meaning.specs.Answer.{isScore}
+use Rattle.cd_merge_meaning.proofs.Laws.Check.{nan-score, number-bits}
 use Rattle.cd_merge.proofs.check.is_score.Statement.{statement}
 use Rattle.cd_merge.proofs.check.is_score.Tie as tie
 

@@ -2,7 +2,7 @@
 use mathlib.Core.Path.{sym, _∙_}
 use native.Mathlib.Omega.{arith}
 use borrow.Author.Needs.{needs}
-use Rattle.cd_merge.proofs.Laws.Check.{many-unfit, over-unfit, total-unfit, total-small}
+use Rattle.cd_merge_meaning.proofs.Laws.Check.{many-unfit, over-unfit, total-unfit, total-small}
 use Rattle.cd_merge.proofs.check.is_unfit.Statement.{statement}
 use Rattle.cd_merge.proofs.check.is_unfit.Tie as tie
 

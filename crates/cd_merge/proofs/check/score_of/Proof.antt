@@ -1,6 +1,6 @@
 -- A score is no NaN, so that its bits make a float. Assumes nothing.
 use borrow.Author.Needs.{needs}
-use Rattle.cd_merge.proofs.Laws.Check.{score-bits}
+use Rattle.cd_merge_meaning.proofs.Laws.Check.{score-bits}
 use Rattle.cd_merge.proofs.check.score_of.Statement.{statement}
 use Rattle.cd_merge.proofs.check.score_of.Tie as tie
 

@@ -5,7 +5,7 @@ use native.Mathlib.Omega.{arith}
 use lib.Dec.{le→leb}
 use lib.Ieee.{inFloat}
 use borrow.Author.Needs.{needs}
-use Rattle.cd_merge.specs.Entries.{entries}
+use Rattle.cd_merge_meaning.specs.Entries.{entries}
 use Rattle.cd_merge.proofs.Loops.Summing.{Summing, summing-start, summing-small, summing-one, summing-other, summing-end}
 use Rattle.cd_merge.proofs.means.mean_of.Statement.{statement}
 use Rattle.cd_merge.proofs.means.mean_of.Tie as tie

@@ -3,7 +3,7 @@ use mathlib.Core.Path.{sym, ap, _∙_}
 use borrow.Author.Needs.{needs}
 use Rattle.base.specs.Causes.{refusedAt}
 use Rattle.base.specs.Refusals.{BAD-PAGE}
-use Rattle.page.proofs.Laws.Answer.{size-refused, entry-refused, none-refused}
+use Rattle.page_meaning.proofs.Laws.Answer.{size-refused, entry-refused, none-refused}
 use Rattle.page.proofs.check.bad_page.Statement.{statement}
 use Rattle.page.proofs.check.bad_page.Tie as tie
 

@@ -3,7 +3,7 @@ use Prim.Native.Nat.{_-_}
 use mathlib.Core.Path.{sym, _∙_}
 use native.Mathlib.Omega.{arith}
 use borrow.Author.Needs.{needs}
-use Rattle.page.specs.Page.{PAGE-ENTRIES}
+use Rattle.page_meaning.specs.Page.{PAGE-ENTRIES}
 use Rattle.page.proofs.Loops.Marking.{Marking, marking-start, marking-new, marking-hit, marking-more, marking-end}
 use Rattle.page.proofs.check.first_bad.Statement.{statement}
 use Rattle.page.proofs.check.first_bad.Tie as tie

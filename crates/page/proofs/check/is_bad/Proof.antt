@@ -1,6 +1,6 @@
 -- The tests of the definition, each on the entry that was read. Assumes nothing.
 use borrow.Author.Needs.{needs}
-use Rattle.page.proofs.Laws.Page.{entry-tested}
+use Rattle.page_meaning.proofs.Laws.Page.{entry-tested}
 use Rattle.page.proofs.check.is_bad.Statement.{statement}
 use Rattle.page.proofs.check.is_bad.Tie as tie
 

@@ -6,7 +6,7 @@ use lib.ListN.{length, getD}
 use borrow.Author.Needs.{needs}
 use Rattle.base.specs.Inner.First.{firstFrom}
 use Rattle.base.proofs.Laws.First.{first-start, first-hit, first-miss, first-end}
-use Rattle.page.specs.Inner.Tables.{lacking, firstLacking}
+use Rattle.page_meaning.specs.Inner.Tables.{lacking, firstLacking}
 use Rattle.page.proofs.inverse.first_lacking.Statement.{statement}
 use Rattle.page.proofs.inverse.first_lacking.Tie as tie
 

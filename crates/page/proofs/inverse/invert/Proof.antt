@@ -2,8 +2,8 @@
 use Prim.Native.Nat.{_-_}
 use native.Mathlib.Omega.{arith}
 use borrow.Author.Needs.{needs}
-use Rattle.page.specs.Page.{BYTES}
-use Rattle.page.proofs.Laws.Tables.{point-word}
+use Rattle.page_meaning.specs.Page.{BYTES}
+use Rattle.page_meaning.proofs.Laws.Tables.{point-word}
 use Rattle.page.proofs.Loops.Inverting.{Inverting, inverting-start, inverting-more, inverting-end}
 use Rattle.page.proofs.inverse.invert.Statement.{statement}
 use Rattle.page.proofs.inverse.invert.Tie as tie

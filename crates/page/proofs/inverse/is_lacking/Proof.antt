@@ -2,8 +2,8 @@
 use mathlib.Core.Path.{refl, sym, _∙_}
 use borrow.Author.Needs.{needs}
 use borrow.Author.Tests.{le-leb, lt-leb}
-use Rattle.page.specs.Page.{UNUSED}
-use Rattle.page.specs.Inner.Tables.{lacking}
+use Rattle.page_meaning.specs.Page.{UNUSED}
+use Rattle.page_meaning.specs.Inner.Tables.{lacking}
 use Rattle.page.proofs.inverse.is_lacking.Statement.{statement}
 use Rattle.page.proofs.inverse.is_lacking.Tie as tie
 

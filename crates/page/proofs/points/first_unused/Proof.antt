@@ -8,8 +8,8 @@ use borrow.Author.Needs.{needs}
 use borrow.Author.Tests.{eq-eqb, ne-eqb}
 use Rattle.base.specs.Inner.First.{firstFrom}
 use Rattle.base.proofs.Laws.First.{first-start, first-hit, first-miss, first-end}
-use Rattle.page.specs.Page.{UNUSED}
-use Rattle.page.specs.Inner.Tables.{firstUnused}
+use Rattle.page_meaning.specs.Page.{UNUSED}
+use Rattle.page_meaning.specs.Inner.Tables.{firstUnused}
 use Rattle.page.proofs.points.first_unused.Statement.{statement}
 use Rattle.page.proofs.points.first_unused.Tie as tie
 

@@ -3,8 +3,8 @@ use mathlib.Core.Path.{sym, _∙_}
 use native.Mathlib.Omega.{arith}
 use borrow.Author.Needs.{needs}
 use borrow.Author.Tests.{not-true}
-use Rattle.page.specs.Page.{BYTES}
-use Rattle.page.proofs.Laws.Tables.{Below, unused-is, none-unused-at}
+use Rattle.page_meaning.specs.Page.{BYTES}
+use Rattle.page_meaning.proofs.Laws.Tables.{Below, unused-is, none-unused-at}
 use Rattle.page.proofs.points.first_unused_byte.Statement.{statement}
 use Rattle.page.proofs.points.first_unused_byte.Tie as tie
 

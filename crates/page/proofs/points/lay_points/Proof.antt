@@ -1,6 +1,6 @@
 -- The code points of the first b bytes are laid out (`Laying`). Assumes nothing.
 use Prim.Native.Nat.{_-_}
-use Rattle.page.specs.Page.{BYTES}
+use Rattle.page_meaning.specs.Page.{BYTES}
 use native.Mathlib.Omega.{arith}
 use borrow.Author.Needs.{needs}
 use Rattle.page.proofs.Loops.Laying.{Laying, laying-start, laying-more, laying-end}

@@ -3,9 +3,9 @@ use Prim.Native.Nat.{_-_}
 use mathlib.Core.Path.{sym, _∙_}
 use native.Mathlib.Omega.{arith}
 use borrow.Author.Needs.{needs}
-use Rattle.page.specs.Page.{UNUSED, FIRST-HIGH}
-use Rattle.page.proofs.Laws.Lists.{getD-any}
-use Rattle.page.proofs.Laws.Page.{point-low, point-high}
+use Rattle.page_meaning.specs.Page.{UNUSED, FIRST-HIGH}
+use Rattle.page_meaning.proofs.Laws.Lists.{getD-any}
+use Rattle.page_meaning.proofs.Laws.Page.{point-low, point-high}
 use Rattle.page.proofs.points.point_of.Statement.{statement}
 use Rattle.page.proofs.points.point_of.Tie as tie
 

@@ -1,6 +1,0 @@
-pub mod Bounds
-pub mod Held
-pub mod Jaro
-pub mod Matching
-pub mod Similarity
-pub mod WorkedExamples

@@ -1,0 +1,2 @@
+pub mod Jaro
+pub mod Similarity

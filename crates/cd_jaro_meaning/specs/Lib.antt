@@ -1,0 +1,3 @@
+pub mod Jaro
+pub mod Similarity
+pub mod Inner

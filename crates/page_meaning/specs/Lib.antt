@@ -1,0 +1,4 @@
+pub mod Page
+pub mod Answer
+pub mod RoundTrips
+pub mod Inner

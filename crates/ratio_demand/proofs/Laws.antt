@@ -1,0 +1,4 @@
+pub mod Apart
+pub mod Demand
+pub mod DemandExample
+pub mod Summing

@@ -1,4 +1,0 @@
-pub mod Answer
-pub mod Encoded
-pub mod RoundTrips
-pub mod Sequence
