@@ -49,8 +49,8 @@ STATEMENTS = [
     ("md_running_meaning", "Line", "line-whole"),  # a line that was fed in full answers what the whole call answers
     ("md_running_meaning", "Chunk", "chunk-one-by-one"),  # an accepted chunk leaves what its characters leave one by one
     ("md_growth", "Growth", "last-growth"),  # 02 [8]: the state keeps the index of each detector's last growth
-    ("class_compact", "Back", "packed-unpacked"),  # 02 [9]: a good table packs to a good compact one and comes back with the same bytes
-    ("class_compact", "Back", "unpacked-packed"),  # and the other way round
+    ("class_compact_meaning", "Back", "packed-unpacked"),  # 02 [9]: a good table packs to a good compact one and comes back with the same bytes
+    ("class_compact_meaning", "Back", "unpacked-packed"),  # and the other way round
     ("md_compact", "Either", "compact-same"),  # scoring with a good compact table is scoring with its expansion
     ("md_compact", "Either", "packed-same"),  # and with what a good table packs to, scoring with that table
     ("md_second", "Agreed", "second-agrees"),  # 02 [10]: the two engines answer alike

@@ -14,9 +14,9 @@ use Rattle.base.specs.Put.{put}
 use Rattle.base.specs.Tests.{within}
 use Rattle.base.proofs.Laws.Tests.{within-lo, within-hi, cond-both}
 use Rattle.class_records.specs.Records.{records, recordAt}
-use Rattle.class_compact.specs.Form.{COMPACT-RECORD, SHARED-BYTES, LETTERS-RECORD, LETTERS-AT, compactRecords, lettersIn, placeAt, baseAt, lowerAt, bytesFrom, joined}
-use Rattle.class_compact.specs.Unpacked.{lettersBytes, expansion, unpacked}
-use Rattle.class_compact.proofs.Laws.Form.{bytes-length, bytes-at, bytes-slice, le32-same, joined-length, joined-at}
+use Rattle.class_compact_meaning.specs.Form.{COMPACT-RECORD, SHARED-BYTES, LETTERS-RECORD, LETTERS-AT, compactRecords, lettersIn, placeAt, baseAt, lowerAt, bytesFrom, joined}
+use Rattle.class_compact_meaning.specs.Unpacked.{lettersBytes, expansion, unpacked}
+use Rattle.class_compact_meaning.proofs.Laws.Form.{bytes-length, bytes-at, bytes-slice, le32-same, joined-length, joined-at}
 
 pub place-inside : (l : List ℕ) (p : ℕ) → within 1 (lettersIn l) p ≡ true → (p - 1) * LETTERS-RECORD + LETTERS-RECORD ≤ length l
 place-inside l p h = omega (arith, within-lo 1 (lettersIn l) p h, within-hi 1 (lettersIn l) p h)

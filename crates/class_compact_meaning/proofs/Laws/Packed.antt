@@ -9,9 +9,9 @@ use Rattle.base.specs.Limits.{CLASS-RECORD}
 use Rattle.base.specs.Put.{put}
 use Rattle.class_records.specs.Records.{records}
 use Rattle.ring_meaning.specs.Record.{leBytes}
-use Rattle.class_compact.specs.Form.{COMPACT-RECORD, SHARED-BYTES, bytesFrom}
-use Rattle.class_compact.specs.Packed.{packedPlace, compacted}
-use Rattle.class_compact.proofs.Laws.Form.{bytes-slice}
+use Rattle.class_compact_meaning.specs.Form.{COMPACT-RECORD, SHARED-BYTES, bytesFrom}
+use Rattle.class_compact_meaning.specs.Packed.{packedPlace, compacted}
+use Rattle.class_compact_meaning.proofs.Laws.Form.{bytes-slice}
 
 module _ (t : List ℕ) where
   pub compacted-length : (i : ℕ) → length (compacted t i) ≡ COMPACT-RECORD

@@ -8,9 +8,9 @@ use lib.ListN.{take}
 use Rattle.base.specs.Limits.{MOST-CLASSES}
 use Rattle.base.specs.Put.{put}
 use Rattle.class_records.specs.Records.{records}
-use Rattle.class_compact.specs.Form.{COMPACT-RECORD, LETTERS-RECORD, lettersIn}
-use Rattle.class_compact.specs.Packed.{newLetters, lettersBefore, packedPlace, compacted, packedLetters}
-use Rattle.class_compact.specs.Inner.Links.{Linked}
+use Rattle.class_compact_meaning.specs.Form.{COMPACT-RECORD, LETTERS-RECORD, lettersIn}
+use Rattle.class_compact_meaning.specs.Packed.{newLetters, lettersBefore, packedPlace, compacted, packedLetters}
+use Rattle.class_compact_meaning.specs.Inner.Links.{Linked}
 
 pub record Placed (t : List ℕ) (i : ℕ) (used : List ℕ) (count : ℕ) (links : List ℕ) : Type 0 where
   pub inside : i < records t

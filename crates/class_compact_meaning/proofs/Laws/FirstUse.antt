@@ -11,10 +11,10 @@ use borrow.Author.Tests.{eqb-true, eqb-false, eq-eqb, ne-eqb, leb-true, le-leb, 
 use Rattle.base.specs.First.{first, each}
 use Rattle.base.proofs.Laws.First.{first-found, first-within, each-at, each-all}
 use Rattle.base.proofs.Laws.Tests.{by-bool, by-test, split, and-l, and-r, and-yes}
-use Rattle.class_compact.specs.Form.{compactRecords, placeAt}
-use Rattle.class_compact.specs.Check.{firstUse, unused, early}
-use Rattle.class_compact.specs.Inner.Sound.{seenBefore, nextOnly, inFirstUse}
-use Rattle.class_compact.proofs.Laws.Firsts.{first-least}
+use Rattle.class_compact_meaning.specs.Form.{compactRecords, placeAt}
+use Rattle.class_compact_meaning.specs.Check.{firstUse, unused, early}
+use Rattle.class_compact_meaning.specs.Inner.Sound.{seenBefore, nextOnly, inFirstUse}
+use Rattle.class_compact_meaning.proofs.Laws.Firsts.{first-least}
 
 module _ (c : List ℕ) where
   -- ---- the largest place before a record

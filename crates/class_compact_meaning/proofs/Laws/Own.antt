@@ -12,12 +12,12 @@ use Rattle.base.specs.First.{first, each}
 use Rattle.base.specs.Limits.{MOST-CLASSES}
 use Rattle.base.proofs.Laws.First.{first-within, each-at, each-more}
 use Rattle.base.proofs.Laws.Tests.{by-bool, split, and-yes}
-use Rattle.class_compact.specs.Form.{compactRecords, lettersIn, placeAt, baseAt, lowerAt}
-use Rattle.class_compact.specs.Check.{noLetters, lettersAre, repeated, unused, early, badLetters, firstUse}
-use Rattle.class_compact.specs.Inner.Links.{LINKS, Linked, Slot}
-use Rattle.class_compact.specs.Inner.Sound.{isOwn, allOwn, Own, Use, Told}
-use Rattle.class_compact.proofs.Laws.Firsts.{clash, or-no-l}
-use Rattle.class_compact.proofs.Laws.Links.{linked-start, linked-more}
+use Rattle.class_compact_meaning.specs.Form.{compactRecords, lettersIn, placeAt, baseAt, lowerAt}
+use Rattle.class_compact_meaning.specs.Check.{noLetters, lettersAre, repeated, unused, early, badLetters, firstUse}
+use Rattle.class_compact_meaning.specs.Inner.Links.{LINKS, Linked, Slot}
+use Rattle.class_compact_meaning.specs.Inner.Sound.{isOwn, allOwn, Own, Use, Told}
+use Rattle.class_compact_meaning.proofs.Laws.Firsts.{clash, or-no-l}
+use Rattle.class_compact_meaning.proofs.Laws.Links.{linked-start, linked-more}
 
 module _ (l : List ℕ) (k base lower : ℕ) (b : base ≡ baseAt l k) (w : lower ≡ lowerAt l k) where
   pub own-none : (eqb base 0 && eqb lower 0) ≡ true → false ≡ isOwn l k

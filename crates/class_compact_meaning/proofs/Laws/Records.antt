@@ -6,13 +6,13 @@ use mathlib.Core.Bool.{not}
 use mathlib.Core.List.{List}
 use Rattle.base.specs.First.{first}
 use Rattle.class_records.specs.Records.{records, goodAt, firstBad}
-use Rattle.class_compact.specs.Form.{compactRecords}
-use Rattle.class_compact.specs.Unpacked.{unpacked}
-use Rattle.class_compact.specs.Check.{missing, badRecordAt, firstBadRecord}
-use Rattle.class_compact.specs.Inner.Form.{Filled}
-use Rattle.class_compact.specs.Inner.Sound.{firstMissing}
-use Rattle.class_compact.proofs.Laws.Firsts.{either-left, either-right}
-use Rattle.class_compact.proofs.Laws.Unpacked.{unpacked-records}
+use Rattle.class_compact_meaning.specs.Form.{compactRecords}
+use Rattle.class_compact_meaning.specs.Unpacked.{unpacked}
+use Rattle.class_compact_meaning.specs.Check.{missing, badRecordAt, firstBadRecord}
+use Rattle.class_compact_meaning.specs.Inner.Form.{Filled}
+use Rattle.class_compact_meaning.specs.Inner.Sound.{firstMissing}
+use Rattle.class_compact_meaning.proofs.Laws.Firsts.{either-left, either-right}
+use Rattle.class_compact_meaning.proofs.Laws.Unpacked.{unpacked-records}
 
 pub table-bad : (c l : List ℕ) → firstBad (unpacked c l) ≡ first (λ i. not (goodAt (unpacked c l) i)) (compactRecords c)
 unfolding firstBad

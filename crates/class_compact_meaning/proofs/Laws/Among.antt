@@ -12,14 +12,14 @@ use Rattle.base.specs.Limits.{CLASS-RECORD, MOST-CLASSES}
 use Rattle.base.specs.Put.{put}
 use Rattle.base.proofs.Laws.Put.{put-nothing}
 use Rattle.class_records.specs.Records.{records, recordAt}
-use Rattle.class_compact.specs.Form.{COMPACT-RECORD, LETTERS-RECORD, LETTERS-AT, lettersIn, baseAt, lowerAt}
-use Rattle.class_compact.specs.Packed.{plain, isNew, newLetters, lettersBefore, packedPlace, compacted, packedLetters}
-use Rattle.class_compact.specs.Inner.Gathered.{Placed, Among, Gathered}
-use Rattle.class_compact.specs.Inner.Links.{Linked, Slot}
-use Rattle.class_compact.proofs.Laws.Form.{bytes-slice}
-use Rattle.class_compact.proofs.Laws.Links.{linked-same, walked-same, linked-more}
-use Rattle.class_compact.proofs.Laws.Numbering.{number-few, number-old, number-new, number-past, letters-new, base-put, lower-put, letter-from}
-use Rattle.class_compact.proofs.Laws.Numbering.{place-none, place-found, new-past, old-within, base-front, lower-front}
+use Rattle.class_compact_meaning.specs.Form.{COMPACT-RECORD, LETTERS-RECORD, LETTERS-AT, lettersIn, baseAt, lowerAt}
+use Rattle.class_compact_meaning.specs.Packed.{plain, isNew, newLetters, lettersBefore, packedPlace, compacted, packedLetters}
+use Rattle.class_compact_meaning.specs.Inner.Gathered.{Placed, Among, Gathered}
+use Rattle.class_compact_meaning.specs.Inner.Links.{Linked, Slot}
+use Rattle.class_compact_meaning.proofs.Laws.Form.{bytes-slice}
+use Rattle.class_compact_meaning.proofs.Laws.Links.{linked-same, walked-same, linked-more}
+use Rattle.class_compact_meaning.proofs.Laws.Numbering.{number-few, number-old, number-new, number-past, letters-new, base-put, lower-put, letter-from}
+use Rattle.class_compact_meaning.proofs.Laws.Numbering.{place-none, place-found, new-past, old-within, base-front, lower-front}
 
 module _ (t : List ℕ) (i count : ℕ) (used links : List ℕ) (g : Placed t i used count links) where
   same : (k : ℕ) → k < count → (baseAt (packedLetters t) k ≡ baseAt used k) × (lowerAt (packedLetters t) k ≡ lowerAt used k)

@@ -12,9 +12,9 @@ use lib.Dec.{eqb}
 use borrow.Author.Tests.{eqb-true, eqb-false}
 use Rattle.base.specs.Limits.{MOST-CLASSES}
 use Rattle.base.proofs.Laws.Tests.{by-bool, split}
-use Rattle.class_compact.specs.Form.{lettersIn, baseAt, lowerAt}
-use Rattle.class_compact.specs.Check.{lettersAre}
-use Rattle.class_compact.specs.Inner.Links.{MARKS, LINKS, slotAt, Passed, Held, Linked, Walked}
+use Rattle.class_compact_meaning.specs.Form.{lettersIn, baseAt, lowerAt}
+use Rattle.class_compact_meaning.specs.Check.{lettersAre}
+use Rattle.class_compact_meaning.specs.Inner.Links.{MARKS, LINKS, slotAt, Passed, Held, Linked, Walked}
 
 pub none-below : {A : Type 0} (j : ℕ) → j < 0 → A
 none-below j h = absurd (no h)

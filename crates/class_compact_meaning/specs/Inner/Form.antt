@@ -7,8 +7,8 @@ use mathlib.Core.List.{List}
 use lib.ListN.{length}
 use lib.Dec.{eqb, ltb}
 use Rattle.base.specs.Limits.{MOST-CLASSES}
-use Rattle.class_compact.specs.Form.{COMPACT-RECORD, compactRecords, placeAt}
-use Rattle.class_compact.specs.Unpacked.{unpacked}
+use Rattle.class_compact_meaning.specs.Form.{COMPACT-RECORD, compactRecords, placeAt}
+use Rattle.class_compact_meaning.specs.Unpacked.{unpacked}
 
 -- what the upper half of a word, and the upper of two words, are counted in
 abbrev pub HALF : ℕ

@@ -23,17 +23,17 @@ use Rattle.class_records.specs.Records.{records, goodAt, firstBad}
 use Rattle.class_records.proofs.Laws.Records.{none-bad}
 use Rattle.classes.specs.Check.{badClasses}
 use Rattle.classes.proofs.Laws.Check.{record-refused, passed}
-use Rattle.class_compact.specs.Form.{COMPACT-RECORD, LETTERS-RECORD, compactRecords, lettersIn, placeAt}
-use Rattle.class_compact.specs.Unpacked.{unpacked}
-use Rattle.class_compact.specs.Check as checks
-use Rattle.class_compact.specs.Check.{missing, badRecordAt, firstBadRecord, unused, noLetters, repeated, early, badLetters, firstBadLetters, badCompactLength, badCompactNumber}
-use Rattle.class_compact.specs.Check.{badCompactRecord, badLettersLength, badLettersRecord, badCompact}
-use Rattle.class_compact.specs.Inner.Form.{Sized, wrongList}
-use Rattle.class_compact.specs.Inner.Sound.{inFirstUse, isOwn, allOwn, sound, beyondTable}
-use Rattle.class_compact.proofs.Laws.Firsts.{first-same, or-none, or-no-l, or-no-r}
-use Rattle.class_compact.proofs.Laws.FirstUse.{place-within, order-used, order-kept, used-in-order}
-use Rattle.class_compact.proofs.Laws.Records.{table-bad}
-use Rattle.class_compact.proofs.Laws.Unpacked.{unpacked-length, unpacked-records}
+use Rattle.class_compact_meaning.specs.Form.{COMPACT-RECORD, LETTERS-RECORD, compactRecords, lettersIn, placeAt}
+use Rattle.class_compact_meaning.specs.Unpacked.{unpacked}
+use Rattle.class_compact_meaning.specs.Check as checks
+use Rattle.class_compact_meaning.specs.Check.{missing, badRecordAt, firstBadRecord, unused, noLetters, repeated, early, badLetters, firstBadLetters, badCompactLength, badCompactNumber}
+use Rattle.class_compact_meaning.specs.Check.{badCompactRecord, badLettersLength, badLettersRecord, badCompact}
+use Rattle.class_compact_meaning.specs.Inner.Form.{Sized, wrongList}
+use Rattle.class_compact_meaning.specs.Inner.Sound.{inFirstUse, isOwn, allOwn, sound, beyondTable}
+use Rattle.class_compact_meaning.proofs.Laws.Firsts.{first-same, or-none, or-no-l, or-no-r}
+use Rattle.class_compact_meaning.proofs.Laws.FirstUse.{place-within, order-used, order-kept, used-in-order}
+use Rattle.class_compact_meaning.proofs.Laws.Records.{table-bad}
+use Rattle.class_compact_meaning.proofs.Laws.Unpacked.{unpacked-length, unpacked-records}
 
 pub by-cause : {A : Type 0} (c : Cause) → (c ≡ Allowed → A) → ((r : Refusal) → c ≡ Refused r → A) → A
 by-cause Allowed p q = p refl

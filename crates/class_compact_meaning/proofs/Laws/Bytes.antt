@@ -8,9 +8,9 @@ use native.Mathlib.Omega.{arith}
 use lib.ListN.{getD, replicate}
 use Rattle.base.specs.LittleEndian.{le16, le32}
 use Rattle.ring_meaning.specs.Record.{leBytes}
-use Rattle.class_compact.specs.Form.{Bytes, bytesFrom}
-use Rattle.class_compact.specs.Inner.Form.{HALF}
-use Rattle.class_compact.proofs.Laws.Form.{bytes-same, bytes-split}
+use Rattle.class_compact_meaning.specs.Form.{Bytes, bytesFrom}
+use Rattle.class_compact_meaning.specs.Inner.Form.{HALF}
+use Rattle.class_compact_meaning.proofs.Laws.Form.{bytes-same, bytes-split}
 
 four : (a b c d x y z w : ℕ) → a < 256 → b < 256 → c < 256 → d < 256 → x < 256 → y < 256 → z < 256 → w < 256
     → a + 256 * b + 65536 * c + 16777216 * d ≡ x + 256 * y + 65536 * z + 16777216 * w → (a ≡ x) × (b ≡ y) × (c ≡ z) × (d ≡ w)

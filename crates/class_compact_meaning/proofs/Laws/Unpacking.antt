@@ -16,20 +16,20 @@ use Rattle.base.specs.Tests.{within}
 use Rattle.base.proofs.Laws.Tests.{split, within-yes}
 use Rattle.class_records.specs.Records.{records, recordAt, goodTable}
 use Rattle.classes.proofs.Laws.Check.{free-good}
-use Rattle.class_compact.specs.Form.{COMPACT-RECORD, Bytes, SHARED-BYTES, LETTERS-RECORD, LETTERS-AT, compactRecords, lettersIn, placeAt, baseAt, lowerAt, bytesFrom, joined}
-use Rattle.class_compact.specs.Unpacked.{lettersBytes, expansion, unpacked}
-use Rattle.class_compact.specs.Check.{noLetters, lettersAre, repeated, badCompact}
-use Rattle.class_compact.specs.Packed.{plain, alike, firstAlike, isNew, lettersBefore, packedPlace, compacted, packedRecords, packedLetters}
-use Rattle.class_compact.specs.Inner.Form.{Sized}
-use Rattle.class_compact.specs.Inner.Sound.{seenBefore, nextOnly, inFirstUse}
-use Rattle.class_compact.proofs.Laws.Bytes.{half-back}
-use Rattle.class_compact.proofs.Laws.Firsts.{clash, first-least}
-use Rattle.class_compact.proofs.Laws.FirstUse.{place-seen, used-by, next-all, all-seen}
-use Rattle.class_compact.proofs.Laws.Form.{bytes-length, bytes-at, bytes-all, bytes-same, bytes-split, joined-same, joined-at, joined-table}
-use Rattle.class_compact.proofs.Laws.Numbering.{both, both-yes, alike-base, alike-lower, alike-of, alike-at, alike-first, first-new, before-new}
-use Rattle.class_compact.proofs.Laws.Numbering.{before-old, place-none, place-some}
-use Rattle.class_compact.proofs.Laws.Sound.{Good, good-parts, record-there, table-allowed, good-order, good-some, good-once}
-use Rattle.class_compact.proofs.Laws.Unpacked.{expansion-length, unpacked-records, base-none, lower-none, base-there, lower-there, at-letters, there}
+use Rattle.class_compact_meaning.specs.Form.{COMPACT-RECORD, Bytes, SHARED-BYTES, LETTERS-RECORD, LETTERS-AT, compactRecords, lettersIn, placeAt, baseAt, lowerAt, bytesFrom, joined}
+use Rattle.class_compact_meaning.specs.Unpacked.{lettersBytes, expansion, unpacked}
+use Rattle.class_compact_meaning.specs.Check.{noLetters, lettersAre, repeated, badCompact}
+use Rattle.class_compact_meaning.specs.Packed.{plain, alike, firstAlike, isNew, lettersBefore, packedPlace, compacted, packedRecords, packedLetters}
+use Rattle.class_compact_meaning.specs.Inner.Form.{Sized}
+use Rattle.class_compact_meaning.specs.Inner.Sound.{seenBefore, nextOnly, inFirstUse}
+use Rattle.class_compact_meaning.proofs.Laws.Bytes.{half-back}
+use Rattle.class_compact_meaning.proofs.Laws.Firsts.{clash, first-least}
+use Rattle.class_compact_meaning.proofs.Laws.FirstUse.{place-seen, used-by, next-all, all-seen}
+use Rattle.class_compact_meaning.proofs.Laws.Form.{bytes-length, bytes-at, bytes-all, bytes-same, bytes-split, joined-same, joined-at, joined-table}
+use Rattle.class_compact_meaning.proofs.Laws.Numbering.{both, both-yes, alike-base, alike-lower, alike-of, alike-at, alike-first, first-new, before-new}
+use Rattle.class_compact_meaning.proofs.Laws.Numbering.{before-old, place-none, place-some}
+use Rattle.class_compact_meaning.proofs.Laws.Sound.{Good, good-parts, record-there, table-allowed, good-order, good-some, good-once}
+use Rattle.class_compact_meaning.proofs.Laws.Unpacked.{expansion-length, unpacked-records, base-none, lower-none, base-there, lower-there, at-letters, there}
 
 module _ (c l : List ℕ) (s : Sized c) (ok : badCompact c l ≡ Allowed) where
   abbrev u : List ℕ

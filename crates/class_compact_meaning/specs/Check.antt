@@ -14,8 +14,8 @@ use Rattle.base.specs.First.{first}
 use Rattle.base.specs.Limits.{MOST-CLASSES}
 use Rattle.base.specs.Refusals.{BAD-CLASSES}
 use Rattle.class_records.specs.Records.{goodAt}
-use Rattle.class_compact.specs.Form.{COMPACT-RECORD, LETTERS-RECORD, compactRecords, lettersIn, placeAt, baseAt, lowerAt}
-use Rattle.class_compact.specs.Unpacked.{unpacked}
+use Rattle.class_compact_meaning.specs.Form.{COMPACT-RECORD, LETTERS-RECORD, compactRecords, lettersIn, placeAt, baseAt, lowerAt}
+use Rattle.class_compact_meaning.specs.Unpacked.{unpacked}
 
 -- its letters are missing: a place past the last whole 8 bytes
 unfoldable pub missing : List ℕ → List ℕ → ℕ → Bool

@@ -14,12 +14,12 @@ use Rattle.base.specs.Counted.{countUnless, lentAfter}
 use Rattle.base.specs.Refusals.{ACCEPTED, NO-ROOM}
 use Rattle.class_records.specs.Records.{records}
 use Rattle.classes.specs.Check.{badClasses}
-use Rattle.class_compact.specs.declared.Packing.{Packing}
-use Rattle.class_compact.specs.declared.Packing.the-variants.{Packed, Refused as NotPacked}
-use Rattle.class_compact.specs.Form.{compactRecords, lettersIn}
-use Rattle.class_compact.specs.Unpacked.{unpacked}
-use Rattle.class_compact.specs.Check.{badCompact}
-use Rattle.class_compact.specs.Packed.{packedRecords, packedLetters}
+use Rattle.class_compact_meaning.specs.declared.Packing.{Packing}
+use Rattle.class_compact_meaning.specs.declared.Packing.the-variants.{Packed, Refused as NotPacked}
+use Rattle.class_compact_meaning.specs.Form.{compactRecords, lettersIn}
+use Rattle.class_compact_meaning.specs.Unpacked.{unpacked}
+use Rattle.class_compact_meaning.specs.Check.{badCompact}
+use Rattle.class_compact_meaning.specs.Packed.{packedRecords, packedLetters}
 
 -- the check: how many records, or 5
 unfoldable pub checkAnswer : List ℕ → List ℕ → Counted

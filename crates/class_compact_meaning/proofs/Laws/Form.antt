@@ -11,7 +11,7 @@ use lib.ListN.{length, getD, take, drop, length-append, length-drop, List·getD-
 use lib.Seq.{length-take-le, getD-take, getD-drop, getD-append-add, ext-getD}
 use Rattle.base.specs.LittleEndian.{le32}
 use Rattle.base.proofs.Laws.Tests.{split}
-use Rattle.class_compact.specs.Form.{bytesFrom, joined}
+use Rattle.class_compact_meaning.specs.Form.{bytesFrom, joined}
 
 no-less : {A : Type 0} (k : ℕ) → k < 0 → A
 no-less k h = absurd (no h)

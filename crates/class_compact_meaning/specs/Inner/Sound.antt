@@ -11,10 +11,10 @@ use lib.Dec.{eqb, leb, ltb}
 use Rattle.base.specs.declared.Cause.{Cause}
 use Rattle.base.specs.declared.Cause.the-variants.{Allowed}
 use Rattle.base.specs.First.{first, each}
-use Rattle.class_compact.specs.Form.{LETTERS-RECORD, compactRecords, lettersIn, placeAt}
-use Rattle.class_compact.specs.Inner.Form.{HALF, Filled}
-use Rattle.class_compact.specs.Inner.Links.{Linked}
-use Rattle.class_compact.specs.Check.{missing, noLetters, repeated, firstUse, badLetters, firstBadLetters, badCompact}
+use Rattle.class_compact_meaning.specs.Form.{LETTERS-RECORD, compactRecords, lettersIn, placeAt}
+use Rattle.class_compact_meaning.specs.Inner.Form.{HALF, Filled}
+use Rattle.class_compact_meaning.specs.Inner.Links.{Linked}
+use Rattle.class_compact_meaning.specs.Check.{missing, noLetters, repeated, firstUse, badLetters, firstBadLetters, badCompact}
 
 -- the largest place of the records before i
 unfoldable pub seenBefore : List ℕ → ℕ → ℕ

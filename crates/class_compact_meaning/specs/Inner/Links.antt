@@ -10,9 +10,9 @@ use mathlib.Core.List.{List}
 use lib.ListN.{length, getD}
 use Rattle.base.specs.First.{first}
 use Rattle.base.specs.Limits.{MOST-CLASSES}
-use Rattle.class_compact.specs.Form.{lettersIn, baseAt, lowerAt}
-use Rattle.class_compact.specs.Check.{lettersAre}
-use Rattle.class_compact.specs.Inner.Form.{HALF, WORD}
+use Rattle.class_compact_meaning.specs.Form.{lettersIn, baseAt, lowerAt}
+use Rattle.class_compact_meaning.specs.Check.{lettersAre}
+use Rattle.class_compact_meaning.specs.Inner.Form.{HALF, WORD}
 
 -- how many marks there are
 abbrev pub MARKS : ℕ

@@ -6,7 +6,7 @@ use mathlib.Core.Bool.{cond}
 use mathlib.Core.List.{List, _∷_, _++_}
 use lib.ListN.{replicate}
 use Rattle.base.specs.Tests.{within}
-use Rattle.class_compact.specs.Form.{COMPACT-RECORD, SHARED-BYTES, LETTERS-RECORD, compactRecords, lettersIn, placeAt, bytesFrom, joined}
+use Rattle.class_compact_meaning.specs.Form.{COMPACT-RECORD, SHARED-BYTES, LETTERS-RECORD, compactRecords, lettersIn, placeAt, bytesFrom, joined}
 
 -- the bytes of base and lower at a place; zeros at 0, and where they are missing (such a record is bad, Check)
 unfoldable pub lettersBytes : List ℕ → ℕ → List ℕ

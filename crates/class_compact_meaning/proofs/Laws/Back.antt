@@ -13,14 +13,14 @@ use Rattle.base.specs.declared.Cause.the-variants.{Allowed}
 use Rattle.base.specs.Refusals.{BAD-CLASSES}
 use Rattle.base.proofs.Laws.Causes.{first-free, given-free}
 use Rattle.class_records.specs.Records.{goodTable}
-use Rattle.class_compact.specs.Form.{COMPACT-RECORD, Bytes}
-use Rattle.class_compact.specs.Unpacked.{unpacked}
-use Rattle.class_compact.specs.Check.{badCompactLength, badCompact}
-use Rattle.class_compact.specs.Packed.{packedRecords, packedLetters}
-use Rattle.class_compact.specs.Inner.Form.{Sized}
-use Rattle.class_compact.proofs.Laws.Calls.{allowed-few}
-use Rattle.class_compact.proofs.Laws.Packing.{packed-back, packed-good}
-use Rattle.class_compact.proofs.Laws.Unpacking.{unpacked-good, records-back, letters-back}
+use Rattle.class_compact_meaning.specs.Form.{COMPACT-RECORD, Bytes}
+use Rattle.class_compact_meaning.specs.Unpacked.{unpacked}
+use Rattle.class_compact_meaning.specs.Check.{badCompactLength, badCompact}
+use Rattle.class_compact_meaning.specs.Packed.{packedRecords, packedLetters}
+use Rattle.class_compact_meaning.specs.Inner.Form.{Sized}
+use Rattle.class_compact_meaning.proofs.Laws.Calls.{allowed-few}
+use Rattle.class_compact_meaning.proofs.Laws.Packing.{packed-back, packed-good}
+use Rattle.class_compact_meaning.proofs.Laws.Unpacking.{unpacked-good, records-back, letters-back}
 
 -- what passes has an allowed length and number
 pub allowed-sized : (c l : List ℕ) → badCompact c l ≡ Allowed → Sized c

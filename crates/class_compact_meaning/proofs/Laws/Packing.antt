@@ -19,21 +19,21 @@ use Rattle.class_records.specs.Records.{records, recordAt, goodTable}
 use Rattle.class_records.proofs.Laws.Records.{table-number, table-fields}
 use Rattle.classes.proofs.Laws.Check.{good-free}
 use Rattle.ring_meaning.specs.Record.{leBytes}
-use Rattle.class_compact.specs.Form.{COMPACT-RECORD, Bytes, SHARED-BYTES, LETTERS-RECORD, LETTERS-AT, compactRecords, lettersIn, placeAt, baseAt, lowerAt, bytesFrom, joined}
-use Rattle.class_compact.specs.Unpacked.{lettersBytes, expansion, unpacked}
-use Rattle.class_compact.specs.Check.{noLetters, lettersAre, repeated, badCompact}
-use Rattle.class_compact.specs.Packed.{plain, alike, firstAlike, isNew, lettersBefore, packedPlace, compacted, packedRecords, packedLetters}
-use Rattle.class_compact.specs.Inner.Form.{Sized, HALF}
-use Rattle.class_compact.specs.Inner.Sound.{seenBefore, nextOnly, inFirstUse, isOwn, allOwn, sound}
-use Rattle.class_compact.proofs.Laws.Bytes.{words-same, words-zero, half-zero, half-read}
-use Rattle.class_compact.proofs.Laws.Calls.{records-length, letters-length}
-use Rattle.class_compact.proofs.Laws.Firsts.{clash}
-use Rattle.class_compact.proofs.Laws.Form.{bytes-length, bytes-at, bytes-same, bytes-split, joined-same, joined-at, joined-table}
-use Rattle.class_compact.proofs.Laws.Numbering.{both, alike-base, alike-lower, alike-of, alike-at, alike-first, alike-not, first-new, new-own, new-some, number-new}
-use Rattle.class_compact.proofs.Laws.Numbering.{number-old, number-none, number-rising, number-past, number-few, bytes-there, base-put, lower-put, From, letter-from, place-none}
-use Rattle.class_compact.proofs.Laws.Numbering.{place-some, place-few, new-place, new-past}
-use Rattle.class_compact.proofs.Laws.Packed.{compacted-length}
-use Rattle.class_compact.proofs.Laws.Sound.{sound-same}
+use Rattle.class_compact_meaning.specs.Form.{COMPACT-RECORD, Bytes, SHARED-BYTES, LETTERS-RECORD, LETTERS-AT, compactRecords, lettersIn, placeAt, baseAt, lowerAt, bytesFrom, joined}
+use Rattle.class_compact_meaning.specs.Unpacked.{lettersBytes, expansion, unpacked}
+use Rattle.class_compact_meaning.specs.Check.{noLetters, lettersAre, repeated, badCompact}
+use Rattle.class_compact_meaning.specs.Packed.{plain, alike, firstAlike, isNew, lettersBefore, packedPlace, compacted, packedRecords, packedLetters}
+use Rattle.class_compact_meaning.specs.Inner.Form.{Sized, HALF}
+use Rattle.class_compact_meaning.specs.Inner.Sound.{seenBefore, nextOnly, inFirstUse, isOwn, allOwn, sound}
+use Rattle.class_compact_meaning.proofs.Laws.Bytes.{words-same, words-zero, half-zero, half-read}
+use Rattle.class_compact_meaning.proofs.Laws.Calls.{records-length, letters-length}
+use Rattle.class_compact_meaning.proofs.Laws.Firsts.{clash}
+use Rattle.class_compact_meaning.proofs.Laws.Form.{bytes-length, bytes-at, bytes-same, bytes-split, joined-same, joined-at, joined-table}
+use Rattle.class_compact_meaning.proofs.Laws.Numbering.{both, alike-base, alike-lower, alike-of, alike-at, alike-first, alike-not, first-new, new-own, new-some, number-new}
+use Rattle.class_compact_meaning.proofs.Laws.Numbering.{number-old, number-none, number-rising, number-past, number-few, bytes-there, base-put, lower-put, From, letter-from, place-none}
+use Rattle.class_compact_meaning.proofs.Laws.Numbering.{place-some, place-few, new-place, new-past}
+use Rattle.class_compact_meaning.proofs.Laws.Packed.{compacted-length}
+use Rattle.class_compact_meaning.proofs.Laws.Sound.{sound-same}
 
 module _ (t : List ℕ) (g : goodTable t ≡ true) (bytes : Bytes t) where
   abbrev c : List ℕ

@@ -18,12 +18,12 @@ use Rattle.base.specs.LittleEndian.{le32}
 use Rattle.base.proofs.Laws.First.{first-is, first-none, first-before, first-within}
 use Rattle.base.proofs.Laws.Tests.{by-bool, split, and-l, and-r, and-yes}
 use Rattle.class_records.specs.Records.{records, recordAt}
-use Rattle.class_compact.specs.Form.{LETTERS-RECORD, LETTERS-AT, lettersIn, baseAt, lowerAt, bytesFrom, joined}
-use Rattle.class_compact.specs.Check.{lettersAre}
-use Rattle.class_compact.specs.Packed.{plain, alike, firstAlike, isNew, newLetters, lettersBefore, packedPlace}
-use Rattle.class_compact.specs.Inner.Gathered.{Placed}
-use Rattle.class_compact.proofs.Laws.Firsts.{clash, first-least, first-hits, first-same}
-use Rattle.class_compact.proofs.Laws.Form.{bytes-length, bytes-at, le32-same}
+use Rattle.class_compact_meaning.specs.Form.{LETTERS-RECORD, LETTERS-AT, lettersIn, baseAt, lowerAt, bytesFrom, joined}
+use Rattle.class_compact_meaning.specs.Check.{lettersAre}
+use Rattle.class_compact_meaning.specs.Packed.{plain, alike, firstAlike, isNew, newLetters, lettersBefore, packedPlace}
+use Rattle.class_compact_meaning.specs.Inner.Gathered.{Placed}
+use Rattle.class_compact_meaning.proofs.Laws.Firsts.{clash, first-least, first-hits, first-same}
+use Rattle.class_compact_meaning.proofs.Laws.Form.{bytes-length, bytes-at, le32-same}
 
 -- equal numbers of two pairs of tests
 pub both : (a b x y : ℕ) → (eqb a x && eqb b y) ≡ true → (a ≡ x) × (b ≡ y)

@@ -24,21 +24,21 @@ use Rattle.class_records.specs.Records.{records, goodTable}
 use Rattle.class_records.proofs.Laws.Records.{table-number}
 use Rattle.classes.specs.Check.{badClasses}
 use Rattle.classes.proofs.Laws.Check.{good-free}
-use Rattle.class_compact.specs.declared.Packing.the-variants.{Packed, Refused as NotPacked}
-use Rattle.class_compact.specs.Form.{COMPACT-RECORD, LETTERS-RECORD, compactRecords, lettersIn}
-use Rattle.class_compact.specs.Unpacked.{unpacked}
-use Rattle.class_compact.specs.Check.{firstBadRecord, firstBadLetters, badCompactLength, badCompactNumber, badCompactRecord, badLettersLength, badLettersRecord, badCompact}
-use Rattle.class_compact.specs.Packed.{compacted, packedRecords, packedLetters}
-use Rattle.class_compact.specs.Calls.{unpackCauses, unpackAnswer, unpackAfter, packCauses, packedUnless, packAnswer, recordsAfter, lettersAfter}
-use Rattle.class_compact.specs.Inner.Form.{Sized}
-use Rattle.class_compact.specs.Inner.Sound.{inFirstUse, allOwn, sound, beyondTable}
-use Rattle.class_compact.proofs.Laws.Links.{zeros, zeros-length}
-use Rattle.class_compact.proofs.Laws.Firsts.{or-no-l, or-no-r}
-use Rattle.class_compact.proofs.Laws.Form.{joined-length}
-use Rattle.class_compact.proofs.Laws.Numbering.{before-length, number-few}
-use Rattle.class_compact.proofs.Laws.Packed.{compacted-length}
-use Rattle.class_compact.proofs.Laws.Sound.{past-size, beyond-then}
-use Rattle.class_compact.proofs.Laws.Unpacked.{unpacked-length}
+use Rattle.class_compact_meaning.specs.declared.Packing.the-variants.{Packed, Refused as NotPacked}
+use Rattle.class_compact_meaning.specs.Form.{COMPACT-RECORD, LETTERS-RECORD, compactRecords, lettersIn}
+use Rattle.class_compact_meaning.specs.Unpacked.{unpacked}
+use Rattle.class_compact_meaning.specs.Check.{firstBadRecord, firstBadLetters, badCompactLength, badCompactNumber, badCompactRecord, badLettersLength, badLettersRecord, badCompact}
+use Rattle.class_compact_meaning.specs.Packed.{compacted, packedRecords, packedLetters}
+use Rattle.class_compact_meaning.specs.Calls.{unpackCauses, unpackAnswer, unpackAfter, packCauses, packedUnless, packAnswer, recordsAfter, lettersAfter}
+use Rattle.class_compact_meaning.specs.Inner.Form.{Sized}
+use Rattle.class_compact_meaning.specs.Inner.Sound.{inFirstUse, allOwn, sound, beyondTable}
+use Rattle.class_compact_meaning.proofs.Laws.Links.{zeros, zeros-length}
+use Rattle.class_compact_meaning.proofs.Laws.Firsts.{or-no-l, or-no-r}
+use Rattle.class_compact_meaning.proofs.Laws.Form.{joined-length}
+use Rattle.class_compact_meaning.proofs.Laws.Numbering.{before-length, number-few}
+use Rattle.class_compact_meaning.proofs.Laws.Packed.{compacted-length}
+use Rattle.class_compact_meaning.proofs.Laws.Sound.{past-size, beyond-then}
+use Rattle.class_compact_meaning.proofs.Laws.Unpacked.{unpacked-length}
 
 -- ---- the quick test
 module _ (c l : List ℕ) where

@@ -9,7 +9,7 @@ use Rattle.base.specs.First.{first}
 use Rattle.base.specs.Limits.{CLASS-RECORD}
 use Rattle.class_records.specs.Records.{records, recordAt}
 use Rattle.ring_meaning.specs.Record.{leBytes}
-use Rattle.class_compact.specs.Form.{SHARED-BYTES, PLACE-BYTES, LETTERS-RECORD, LETTERS-AT, lettersIn, bytesFrom, joined}
+use Rattle.class_compact_meaning.specs.Form.{SHARED-BYTES, PLACE-BYTES, LETTERS-RECORD, LETTERS-AT, lettersIn, bytesFrom, joined}
 
 module _ (t : List ℕ) where
   -- the record i has neither base nor lower: (0, 0)
