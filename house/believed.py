@@ -57,10 +57,10 @@ STATEMENTS = [
     ("ring_meaning", "History", "history"),  # 02 [11]: the accepted puts of a history of calls are the flushed records and those in the ring
     ("md_thresholds", "Thresholds", "higher-compared"),  # 02 [12]: what a higher threshold does, in three sentences
     ("md_thresholds", "Thresholds", "above-all"),  # no scan stops early at a threshold above HIGHEST
-    ("md_report", "Report", "bins-add-up"),  # 02 [13]: the bins of each detector add up to the accepted lines
-    ("md_report", "Report", "lines-add-up"),  # and that sum with the refused lines is the number of lines given
-    ("md_report", "Report", "numbers-add-up"),  # the lines refused with each number add up to the refused
-    ("md_report", "Longest", "report-fits"),  # no text of a month is longer than LONGEST-REPORT
+    ("md_report_meaning", "Report", "bins-add-up"),  # 02 [13]: the bins of each detector add up to the accepted lines
+    ("md_report_meaning", "Report", "lines-add-up"),  # and that sum with the refused lines is the number of lines given
+    ("md_report_meaning", "Report", "numbers-add-up"),  # the lines refused with each number add up to the refused
+    ("md_report_meaning", "Longest", "report-fits"),  # no text of a month is longer than LONGEST-REPORT
     ("cd_merge", "Merge", "means-between"),  # 02 [14]: each mean, rounding included, lies between 0 and 1
 ]
 

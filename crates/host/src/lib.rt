@@ -14,7 +14,7 @@ ghost use Rattle.md_chooser.specs.Choose.{chosen, verdictOf};
 ghost use Rattle.cd_meaning.specs.Causes.{causes, causesDefault};
 ghost use Rattle.cd_meaning.specs.Coherence.{DEFAULT-THRESHOLD, matchesOf, workAfter};
 ghost use Rattle.cd_merge.specs.Answer.{mergeAnswer, mergeInto};
-ghost use Rattle.md_report.specs.Report.{reportAnswer, reportInto};
+ghost use Rattle.md_report_meaning.specs.Report.{reportAnswer, reportInto};
 ghost use Rattle.ring_meaning.specs.Calls as rings;
 ghost use Rattle.utf8_write.specs.Answer as writing;
 ghost use Rattle.host.specs.Chosen.{hostChosen};

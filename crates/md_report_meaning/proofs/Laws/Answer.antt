@@ -14,9 +14,9 @@ use Rattle.base.specs.Put.{put}
 use Rattle.base.specs.Refusals.{MANY-LINES, NO-ROOM}
 use Rattle.base.proofs.Laws.Causes.{first-given, first-passed, first-free, given-free}
 use Rattle.base.proofs.Laws.Counted.{counted-allowed, counted-at, count-allowed, count-is, after-allowed, after-refused}
-use Rattle.md_report.specs.Rows.{linesIn}
-use Rattle.md_report.specs.Text.{reportText}
-use Rattle.md_report.specs.Report.{MOST-LINES, manyLines, noRoom, reportCauses, reportAnswer, reportInto}
+use Rattle.md_report_meaning.specs.Rows.{linesIn}
+use Rattle.md_report_meaning.specs.Text.{reportText}
+use Rattle.md_report_meaning.specs.Report.{MOST-LINES, manyLines, noRoom, reportCauses, reportAnswer, reportInto}
 
 -- the answer is a, and the output is left as new
 abbrev pub Ends : List ℕ → List ℕ → Counted → List ℕ → Type 0

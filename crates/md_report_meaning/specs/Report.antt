@@ -10,8 +10,8 @@ use Rattle.base.specs.declared.Counted.{Counted}
 use Rattle.base.specs.Causes.{given, firstOf}
 use Rattle.base.specs.Counted.{countUnless, lentAfter}
 use Rattle.base.specs.Refusals.{MANY-LINES, NO-ROOM}
-use Rattle.md_report.specs.Rows.{linesIn}
-use Rattle.md_report.specs.Text.{reportText}
+use Rattle.md_report_meaning.specs.Rows.{linesIn}
+use Rattle.md_report_meaning.specs.Text.{reportText}
 
 -- "up to 65,535 lines"
 abbrev pub MOST-LINES : ℕ

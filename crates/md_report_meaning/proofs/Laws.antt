@@ -3,4 +3,5 @@ pub mod Sums
 pub mod Report
 pub mod Text
 pub mod Longest
+pub mod Parts
 pub mod Answer

@@ -8,8 +8,8 @@ use lib.Dec.{eqb}
 use Rattle.pieces.specs.Words.{codes}
 use Rattle.pieces.specs.Numerals.{decimal}
 use Rattle.ratio.specs.Eight.{DETECTORS}
-use Rattle.md_report.specs.Rows.{linesIn}
-use Rattle.md_report.specs.Bins.{BINS, inBin, accepted, refused}
+use Rattle.md_report_meaning.specs.Rows.{linesIn}
+use Rattle.md_report_meaning.specs.Bins.{BINS, inBin, accepted, refused}
 
 -- f 0, f 1, .. one behind the other, n of them
 unfoldable pub joined : (ℕ → List ℕ) → ℕ → List ℕ

@@ -14,8 +14,8 @@ use lib.Seq.{ext-getD, getD-set-same, getD-set-other}
 use borrow.Author.Tests.{eqb-true, eqb-false}
 use Rattle.base.specs.Numbers.{bump}
 use Rattle.base.proofs.Laws.Tests.{split}
-use Rattle.md_report.specs.Bins.{howMany}
-use Rattle.md_report.specs.Inner.Counts.{from, tally}
+use Rattle.md_report_meaning.specs.Bins.{howMany}
+use Rattle.md_report_meaning.specs.Inner.Counts.{from, tally}
 
 -- ---- lists made by a function
 pub length-from : (f : ℕ → ℕ) (k n : ℕ) → length (from f k n) ≡ n

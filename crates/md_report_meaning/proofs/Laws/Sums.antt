@@ -10,7 +10,7 @@ use lib.Dec.{eqb}
 use borrow.Author.Tests.{eqb-true, eq-eqb, ne-eqb}
 use Rattle.base.specs.Numbers.{bump}
 use Rattle.base.proofs.Laws.Tests.{split, by-bool}
-use Rattle.md_report.specs.Bins.{howMany, sumTo}
+use Rattle.md_report_meaning.specs.Bins.{howMany, sumTo}
 
 pub sum-same : (f g : ℕ → ℕ) (n : ℕ) → ((k : ℕ) → k < n → f k ≡ g k) → sumTo f n ≡ sumTo g n
 unfolding sumTo

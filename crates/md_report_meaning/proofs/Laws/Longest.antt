@@ -14,12 +14,12 @@ use Rattle.pieces.specs.Words.{codes}
 use Rattle.pieces.specs.Numerals.{decimal}
 use Rattle.pieces.proofs.Laws.Numerals.{decimal-few, decimal-short}
 use Rattle.ratio.specs.Eight.{DETECTORS}
-use Rattle.md_report.specs.Rows.{linesIn}
-use Rattle.md_report.specs.Bins.{BINS, sumTo, inBin, accepted, refused}
-use Rattle.md_report.specs.Report.{MOST-LINES, LONGEST-REPORT}
-use Rattle.md_report.specs.Text.{joined, binLine, detectorText, totalLine, totalsText, reportText}
-use Rattle.md_report.specs.Inner.Written.{SPARE}
-use Rattle.md_report.proofs.Laws.Report.{in-bin-few, bins-add-up, accepted-refused}
+use Rattle.md_report_meaning.specs.Rows.{linesIn}
+use Rattle.md_report_meaning.specs.Bins.{BINS, sumTo, inBin, accepted, refused}
+use Rattle.md_report_meaning.specs.Report.{MOST-LINES, LONGEST-REPORT}
+use Rattle.md_report_meaning.specs.Text.{joined, binLine, detectorText, totalLine, totalsText, reportText}
+use Rattle.md_report_meaning.specs.Inner.Written.{SPARE}
+use Rattle.md_report_meaning.proofs.Laws.Report.{in-bin-few, bins-add-up, accepted-refused}
 
 -- ---- digits
 -- of a bin

@@ -10,10 +10,10 @@ use lib.Dec.{eqb, ltb}
 use borrow.Author.Tests.{ltb-false, eqb-true, eqb-false, eq-eqb, ne-eqb}
 use Rattle.base.proofs.Laws.Tests.{by-test, cond-both, by-bool}
 use Rattle.base.specs.Refusals.{ACCEPTED}
-use Rattle.md_report.specs.Rows.{linesIn, numberAt, acceptedAt}
-use Rattle.md_report.specs.Bins.{BINS, LAST-BIN, LAST-NUMBER, OTHER, sumTo, howMany, zeroBits, parts, binOf, binAt, inBin, accepted, refused, kindOf, numbered}
-use Rattle.md_report.proofs.Laws.Tally.{howMany-few, howMany-same}
-use Rattle.md_report.proofs.Laws.Sums.{sum-first, tally-adds-up, both-ways}
+use Rattle.md_report_meaning.specs.Rows.{linesIn, numberAt, acceptedAt}
+use Rattle.md_report_meaning.specs.Bins.{BINS, LAST-BIN, LAST-NUMBER, OTHER, sumTo, howMany, zeroBits, parts, binOf, binAt, inBin, accepted, refused, kindOf, numbered}
+use Rattle.md_report_meaning.proofs.Laws.Tally.{howMany-few, howMany-same}
+use Rattle.md_report_meaning.proofs.Laws.Sums.{sum-first, tally-adds-up, both-ways}
 
 bin-small : (ratio n d : ℕ) → binOf ratio n d < BINS
 unfolding binOf

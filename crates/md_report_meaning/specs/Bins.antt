@@ -7,7 +7,7 @@ use mathlib.Core.Bool.{Bool, cond, not, _&&_, _||_}
 use mathlib.Core.List.{List}
 use lib.Dec.{eqb, ltb}
 use Rattle.base.specs.Numbers.{bump}
-use Rattle.md_report.specs.Rows.{linesIn, numberAt, acceptedAt, ratioAt, numeratorAt, denominatorAt}
+use Rattle.md_report_meaning.specs.Rows.{linesIn, numberAt, acceptedAt, ratioAt, numeratorAt, denominatorAt}
 
 -- "513 bins for each detector"
 abbrev pub BINS : ℕ

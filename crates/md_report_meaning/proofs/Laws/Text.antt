@@ -13,14 +13,14 @@ use Rattle.base.proofs.Laws.Tests.{split}
 use Rattle.pieces.specs.Words.{codes}
 use Rattle.pieces.specs.Numerals.{decimal}
 use Rattle.ratio.specs.Eight.{DETECTORS}
-use Rattle.md_report.specs.Rows.{linesIn, numberAt, acceptedAt}
-use Rattle.md_report.specs.Bins.{BINS, OTHER, sumTo, binAt, kindOf, inBin, refused, numbered}
-use Rattle.md_report.specs.Text.{joined, binLine, detectorText, totalLine, totalsText, reportText}
-use Rattle.md_report.specs.Inner.Counts.{KINDS, Few, Counts, binsAfter, kindsAfter}
-use Rattle.md_report.specs.Inner.Written.{binLines, totals}
-use Rattle.md_report.proofs.Laws.Tally.{tally-at, tally-few}
-use Rattle.md_report.proofs.Laws.Report.{numbered-none, numbers-add-up}
-use Rattle.md_report.proofs.Laws.Sums.{sum-same}
+use Rattle.md_report_meaning.specs.Rows.{linesIn, numberAt, acceptedAt}
+use Rattle.md_report_meaning.specs.Bins.{BINS, OTHER, sumTo, binAt, kindOf, inBin, refused, numbered}
+use Rattle.md_report_meaning.specs.Text.{joined, binLine, detectorText, totalLine, totalsText, reportText}
+use Rattle.md_report_meaning.specs.Inner.Counts.{KINDS, Few, Counts, binsAfter, kindsAfter}
+use Rattle.md_report_meaning.specs.Inner.Written.{binLines, totals}
+use Rattle.md_report_meaning.proofs.Laws.Tally.{tally-at, tally-few}
+use Rattle.md_report_meaning.proofs.Laws.Report.{numbered-none, numbers-add-up}
+use Rattle.md_report_meaning.proofs.Laws.Sums.{sum-same}
 
 -- ---- one behind the other
 pub joined-more : (f : ℕ → List ℕ) (n : ℕ) → joined f n ++ f n ≡ joined f (n + 1)

@@ -6,9 +6,9 @@ use mathlib.Core.Bool.{Bool, true, _&&_}
 use mathlib.Core.List.{List, [], _∷_}
 use lib.Dec.{eqb}
 use lib.ListN.{getD}
-use Rattle.md_report.specs.Rows.{linesIn, numberAt, acceptedAt}
-use Rattle.md_report.specs.Bins.{BINS, binAt, kindOf, howMany}
-use Rattle.md_report.specs.Report.{MOST-LINES}
+use Rattle.md_report_meaning.specs.Rows.{linesIn, numberAt, acceptedAt}
+use Rattle.md_report_meaning.specs.Bins.{BINS, binAt, kindOf, howMany}
+use Rattle.md_report_meaning.specs.Report.{MOST-LINES}
 
 -- f k, f (k + 1), .. n of them
 unfoldable pub from : (ℕ → ℕ) → ℕ → ℕ → List ℕ

@@ -6,8 +6,8 @@ use lib.ListN.{length, getD}
 use Rattle.pieces.specs.Inner.Pieces.{Goes}
 use Rattle.pieces.specs.Numerals.{MOST-DIGITS}
 use Rattle.pieces.specs.Words.{codes}
-use Rattle.md_report.specs.Bins.{BINS}
-use Rattle.md_report.specs.Text.{joined, binLine, totalLine}
+use Rattle.md_report_meaning.specs.Bins.{BINS}
+use Rattle.md_report_meaning.specs.Text.{joined, binLine, totalLine}
 
 -- the lines of a detector, 1 to 8, whose counts stand in an array
 unfoldable pub binLines : ℕ → List ℕ → List ℕ
