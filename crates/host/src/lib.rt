@@ -10,7 +10,7 @@ ghost use Rattle.md_meaning.specs.MessRatio.{messRatio, messRatioDefault};
 ghost use Rattle.md_utf8.specs.ScoreUtf8.{messRatioUtf8, messRatioUtf8Default};
 ghost use Rattle.md_lines_meaning.specs.Burst as bursts;
 ghost use Rattle.md_second.specs.Second.{secondScore};
-ghost use Rattle.md_chooser.specs.Choose.{chosen, verdictOf};
+ghost use Rattle.md_chooser_meaning.specs.Choose.{chosen, verdictOf};
 ghost use Rattle.cd_meaning.specs.Causes.{causes, causesDefault};
 ghost use Rattle.cd_meaning.specs.Coherence.{DEFAULT-THRESHOLD, matchesOf, workAfter};
 ghost use Rattle.cd_merge.specs.Answer.{mergeAnswer, mergeInto};

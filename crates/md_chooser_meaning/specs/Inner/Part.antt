@@ -4,8 +4,8 @@ use Prim.Native.Nat.{ℕ, _≤_}
 use mathlib.Core.Path.{_≡_}
 use mathlib.Core.List.{List}
 use lib.ListN.{length, take}
-use Rattle.md_chooser.specs.declared.Judged.{Judged}
-use Rattle.md_chooser.specs.Choose.{partOf, takenFrom}
+use Rattle.md_chooser_meaning.specs.declared.Judged.{Judged}
+use Rattle.md_chooser_meaning.specs.Choose.{partOf, takenFrom}
 
 -- n code points of the text that the verdict names are what is handed back
 pub record PartLength (judged : Judged) (first second : List ℕ) (n : ℕ) : Type 0 where

@@ -1,4 +1,4 @@
--- What each verdict shows of the part that is handed back, and of the scores.
+-- What each verdict shows of the part that is handed back, and of the scores; that a first text is refused whole (`first-refused`).
 -- Assumes nothing.
 use Prim.Native.Nat.{ℕ, _≤_}
 use mathlib.Core.Path.{_≡_, refl, sym, ap, _∙_}
@@ -16,13 +16,13 @@ use Rattle.md_meaning.specs.declared.Scored.{Scored}
 use Rattle.md_meaning.specs.declared.Scored.the-variants.{Refused, Score as Told}
 use Rattle.md_meaning.specs.MessRatio.{wholeScore}
 use Rattle.md_meaning.proofs.Laws.Default.{whole-faultless}
-use Rattle.md_chooser.specs.declared.Judged.{Judged}
-use Rattle.md_chooser.specs.declared.Judged.the-variants.{First, Second, FirstRefused, SecondRefused}
-use Rattle.md_chooser.specs.Cut.{cut}
-use Rattle.md_chooser.specs.Choose.{judged, verdictOf, partOf, takenFrom, chosen}
-use Rattle.md_chooser.specs.Inner.Cut.{CutLength}
-use Rattle.md_chooser.specs.Inner.Part.{PartLength}
-use Rattle.md_chooser.proofs.Laws.Cut.{cut-within}
+use Rattle.md_chooser_meaning.specs.declared.Judged.{Judged}
+use Rattle.md_chooser_meaning.specs.declared.Judged.the-variants.{First, Second, FirstRefused, SecondRefused}
+use Rattle.md_chooser_meaning.specs.Cut.{cut}
+use Rattle.md_chooser_meaning.specs.Choose.{judged, verdictOf, partOf, takenFrom, chosen}
+use Rattle.md_chooser_meaning.specs.Inner.Cut.{CutLength}
+use Rattle.md_chooser_meaning.specs.Inner.Part.{PartLength}
+use Rattle.md_chooser_meaning.proofs.Laws.Cut.{cut-within}
 
 pub judged-first : (a b : Scored) (r : Refusal) → a ≡ Refused r → FirstRefused r ≡ judged a b
 unfolding judged
@@ -84,6 +84,12 @@ module _ (first second : List ℕ) where
       cond-both (λ (v : Judged). length (partOf v first second) ≤ LONGEST-TEXT) (lt (t .sum) (s .sum)) Second First
       (omega (arith, cut-within second, B t refl))
       (omega (arith, cut-within first, A s refl))
+
+-- "each scored whole": a first text that is refused as it is lent, with the newlines at its end, is told as refused
+pub first-refused : (first second classes pairs : List ℕ) (r : Refusal) → wholeScore first classes pairs ≡ Refused r
+    → verdictOf first second classes pairs ≡ FirstRefused r
+unfolding verdictOf
+first-refused first second classes pairs r e = sym (judged-first _ _ r e)
 
 module _ (first second classes pairs : List ℕ) (v : Judged) (f : v ≡ verdictOf first second classes pairs) where
   pub chosen-first : v ≡ First → cut first ≡ chosen first second classes pairs

@@ -4,7 +4,7 @@ use Prim.Native.Nat.{ℕ, _≤_}
 use mathlib.Core.Path.{_≡_}
 use mathlib.Core.List.{List}
 use lib.ListN.{length, take}
-use Rattle.md_chooser.specs.Cut.{cut}
+use Rattle.md_chooser_meaning.specs.Cut.{cut}
 
 -- n code points of the text are what is left when it is cut
 pub record CutLength (text : List ℕ) (n : ℕ) : Type 0 where

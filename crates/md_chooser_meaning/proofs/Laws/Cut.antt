@@ -11,7 +11,7 @@ use lib.Seq.{take-suc}
 use borrow.Author.Tests.{ne-eqb}
 use Rattle.base.specs.Limits.{NEWLINE}
 use Rattle.base.proofs.Laws.Tests.{cond-both}
-use Rattle.md_chooser.specs.Cut.{onlyNewlines, cut}
+use Rattle.md_chooser_meaning.specs.Cut.{onlyNewlines, cut}
 
 -- a newline more
 only-more : (l : List ℕ) → onlyNewlines (l ++ (NEWLINE ∷ [])) ≡ onlyNewlines l

@@ -10,9 +10,9 @@ use lib.Ieee.{lt}
 use Rattle.md_meaning.specs.declared.Scored.{Scored}
 use Rattle.md_meaning.specs.declared.Scored.the-variants.{Score, Refused}
 use Rattle.md_meaning.specs.MessRatio.{wholeScore}
-use Rattle.md_chooser.specs.declared.Judged.{Judged}
-use Rattle.md_chooser.specs.declared.Judged.the-variants.{First, Second, FirstRefused, SecondRefused}
-use Rattle.md_chooser.specs.Cut.{cut}
+use Rattle.md_chooser_meaning.specs.declared.Judged.{Judged}
+use Rattle.md_chooser_meaning.specs.declared.Judged.the-variants.{First, Second, FirstRefused, SecondRefused}
+use Rattle.md_chooser_meaning.specs.Cut.{cut}
 
 -- the verdict on two answers
 unfoldable pub judged : Scored → Scored → Judged
