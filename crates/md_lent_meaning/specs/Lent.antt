@@ -17,9 +17,9 @@ use Rattle.md_running_meaning.specs.declared.Running.{Running}
 use Rattle.md_running_meaning.specs.declared.Opened.{Opened}
 use Rattle.md_running_meaning.specs.declared.Fed.{Fed}
 use Rattle.md_running_meaning.specs.Opening.{values}
-use Rattle.md_lent.specs.declared.HostRunning.{HostRunning}
-use Rattle.md_lent.specs.declared.HostOpened.{HostOpened}
-use Rattle.md_lent.specs.declared.LentFed.{LentFed}
+use Rattle.md_lent_meaning.specs.declared.HostRunning.{HostRunning}
+use Rattle.md_lent_meaning.specs.declared.HostOpened.{HostOpened}
+use Rattle.md_lent_meaning.specs.declared.LentFed.{LentFed}
 
 -- a mark
 abbrev pub marked : ℕ → Bool

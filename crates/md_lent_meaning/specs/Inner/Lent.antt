@@ -1,6 +1,6 @@
 -- Words of inner contracts, beside Lent: `noLent`, what no line is in numbers (`none-lent`, proofs/Laws/Lent). No public promise rests on them.
 -- Assumes nothing.
-use Rattle.md_lent.specs.declared.HostRunning.{HostRunning}
+use Rattle.md_lent_meaning.specs.declared.HostRunning.{HostRunning}
 
 -- no line: zeros
 unfoldable pub noLent : HostRunning

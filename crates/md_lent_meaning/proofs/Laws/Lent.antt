@@ -18,11 +18,11 @@ use Rattle.md_running_meaning.specs.declared.Opened.{Opened}
 use Rattle.md_running_meaning.specs.declared.Opened.the-variants.{Running as Open, Refused as NotOpen}
 use Rattle.md_running_meaning.specs.declared.Fed.{Fed}
 use Rattle.md_running_meaning.specs.Opening.{noLine, values}
-use Rattle.md_lent.specs.declared.HostRunning.{HostRunning}
-use Rattle.md_lent.specs.declared.HostOpened.{HostOpened}
-use Rattle.md_lent.specs.declared.LentFed.{LentFed}
-use Rattle.md_lent.specs.Inner.Lent.{noLent}
-use Rattle.md_lent.specs.Lent.{marked, eightLent, growthsLent, runningOf, lentOf, hostOpened, lentReceived, nextLent, leftOf, fedLent}
+use Rattle.md_lent_meaning.specs.declared.HostRunning.{HostRunning}
+use Rattle.md_lent_meaning.specs.declared.HostOpened.{HostOpened}
+use Rattle.md_lent_meaning.specs.declared.LentFed.{LentFed}
+use Rattle.md_lent_meaning.specs.Inner.Lent.{noLent}
+use Rattle.md_lent_meaning.specs.Lent.{marked, eightLent, growthsLent, runningOf, lentOf, hostOpened, lentReceived, nextLent, leftOf, fedLent}
 
 module _ (h : HostRunning) (s : Running) where
   pub next-same : (marked (h .stopped) || eqb (s .received) (h .received)) ≡ true → lentReceived h (s .received) ≡ nextLent h s
