@@ -7,7 +7,7 @@ ghost use Rattle.classes.specs.Check.{checked};
 ghost use Rattle.utf8.specs.Answer.{answer, outAfter};
 ghost use Rattle.page.specs.Answer.{readAnswer, readInto, writeAnswer, writeInto};
 ghost use Rattle.md_meaning.specs.MessRatio.{messRatio, messRatioDefault};
-ghost use Rattle.md_utf8.specs.ScoreUtf8.{messRatioUtf8, messRatioUtf8Default};
+ghost use Rattle.md_utf8_meaning.specs.ScoreUtf8.{messRatioUtf8, messRatioUtf8Default};
 ghost use Rattle.md_lines_meaning.specs.Burst as bursts;
 ghost use Rattle.md_second.specs.Second.{secondScore};
 ghost use Rattle.md_chooser_meaning.specs.Choose.{chosen, verdictOf};

@@ -1,6 +1,6 @@
 // The program: the bytes of standard input in, the line for standard output out. `report` is the whole of it; `run` only reads and writes.
 ghost use mathlib.Core.Path.{_≡_};
-ghost use Rattle.md_utf8.specs.ScoreUtf8.{messRatioUtf8};
+ghost use Rattle.md_utf8_meaning.specs.ScoreUtf8.{messRatioUtf8};
 ghost use Rattle.program.specs.Program as program;
 ghost use Rattle.program.specs.Line.{Reported};
 use base::limits::PAIR_BYTES;

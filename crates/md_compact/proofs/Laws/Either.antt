@@ -34,7 +34,7 @@ use Rattle.md_meaning.specs.MessRatio.{DEFAULT-THRESHOLD, tooLong, causes, mess
 use Rattle.md_meaning.specs.Scan.{acceptedScore, noClass, unless}
 use Rattle.md_meaning.proofs.Laws.MessRatio.{default-finite}
 use Rattle.md_meaning.proofs.Laws.Scan.{unless-refused}
-use Rattle.md_utf8.specs.ScoreUtf8.{causesUtf8, messRatioUtf8}
+use Rattle.md_utf8_meaning.specs.ScoreUtf8.{causesUtf8, messRatioUtf8}
 use Rattle.md_lines_meaning.specs.Lines.{linesOf}
 use Rattle.md_lines_meaning.specs.Burst as bursts
 use Rattle.class_compact_meaning.specs.Form.{Bytes}

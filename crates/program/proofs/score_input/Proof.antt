@@ -1,6 +1,6 @@
 -- It is the call's own answer, and the pair table is the definition's. Assumes nothing.
 use mathlib.Core.Path.{ap, _∙_}
-use Rattle.md_utf8.specs.ScoreUtf8.{messRatioUtf8}
+use Rattle.md_utf8_meaning.specs.ScoreUtf8.{messRatioUtf8}
 use borrow.Author.Needs.{needs}
 use Rattle.program.proofs.score_input.Statement.{statement}
 use Rattle.program.proofs.score_input.Tie as tie

@@ -27,8 +27,8 @@ use Rattle.md_meaning.proofs.Laws.Accepted.{Faultless, faultless-free, free-fau
 use Rattle.md_meaning.proofs.Laws.Default.{default-threshold}
 use Rattle.md_meaning.proofs.Laws.DemandThree.{demand-three}
 use Rattle.md_meaning.proofs.Laws.Plain.{Bounded, ratio-at-most}
-use Rattle.md_utf8.specs.ScoreUtf8.{causesUtf8, messRatioUtf8, messRatioUtf8Default}
-use Rattle.md_utf8.proofs.Laws.ScoreUtf8.{default-same-utf8}
+use Rattle.md_utf8_meaning.specs.ScoreUtf8.{causesUtf8, messRatioUtf8, messRatioUtf8Default}
+use Rattle.md_utf8_meaning.proofs.Laws.ScoreUtf8.{default-same-utf8}
 
 -- none of the causes that lie in the bytes, 1 (bytes), 2, 1 (code points), and none of scoring's of the text that they are
 pub record FaultlessUtf8 (bytes : List ℕ) (threshold : Float) (classes pairs : List ℕ) : Type 0 where

@@ -29,7 +29,7 @@ use Rattle.md_meaning.proofs.Laws.Plain.{ratio-plain}
 use Rattle.md_meaning.specs.Scan.{acceptedScore, unless}
 use Rattle.md_meaning.proofs.Laws.Scan.{unless-allowed, unless-refused, unless-score}
 use Rattle.md_meaning.proofs.Laws.MessRatio.{default-finite}
-use Rattle.md_utf8.specs.ScoreUtf8.{causesUtf8, causesUtf8Default, messRatioUtf8, messRatioUtf8Default}
+use Rattle.md_utf8_meaning.specs.ScoreUtf8.{causesUtf8, causesUtf8Default, messRatioUtf8, messRatioUtf8Default}
 
 module _ (bytes : List ℕ) (threshold : Float) (classes pairs : List ℕ) where
   -- the refusal of bytes that were not read
