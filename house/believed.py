@@ -49,18 +49,18 @@ STATEMENTS = [
     ("md_running_meaning", "Line", "line-whole"),  # a line that was fed in full answers what the whole call answers
     ("md_running_meaning", "Chunk", "chunk-one-by-one"),  # an accepted chunk leaves what its characters leave one by one
     ("md_growth", "Growth", "last-growth"),  # 02 [8]: the state keeps the index of each detector's last growth
-    ("class_compact", "Back", "packed-unpacked"),  # 02 [9]: a good table packs to a good compact one and comes back with the same bytes
-    ("class_compact", "Back", "unpacked-packed"),  # and the other way round
+    ("class_compact_meaning", "Back", "packed-unpacked"),  # 02 [9]: a good table packs to a good compact one and comes back with the same bytes
+    ("class_compact_meaning", "Back", "unpacked-packed"),  # and the other way round
     ("md_compact", "Either", "compact-same"),  # scoring with a good compact table is scoring with its expansion
     ("md_compact", "Either", "packed-same"),  # and with what a good table packs to, scoring with that table
     ("md_second", "Agreed", "second-agrees"),  # 02 [10]: the two engines answer alike
     ("ring_meaning", "History", "history"),  # 02 [11]: the accepted puts of a history of calls are the flushed records and those in the ring
     ("md_thresholds", "Thresholds", "higher-compared"),  # 02 [12]: what a higher threshold does, in three sentences
     ("md_thresholds", "Thresholds", "above-all"),  # no scan stops early at a threshold above HIGHEST
-    ("md_report", "Report", "bins-add-up"),  # 02 [13]: the bins of each detector add up to the accepted lines
-    ("md_report", "Report", "lines-add-up"),  # and that sum with the refused lines is the number of lines given
-    ("md_report", "Report", "numbers-add-up"),  # the lines refused with each number add up to the refused
-    ("md_report", "Longest", "report-fits"),  # no text of a month is longer than LONGEST-REPORT
+    ("md_report_meaning", "Report", "bins-add-up"),  # 02 [13]: the bins of each detector add up to the accepted lines
+    ("md_report_meaning", "Report", "lines-add-up"),  # and that sum with the refused lines is the number of lines given
+    ("md_report_meaning", "Report", "numbers-add-up"),  # the lines refused with each number add up to the refused
+    ("md_report_meaning", "Longest", "report-fits"),  # no text of a month is longer than LONGEST-REPORT
     ("cd_merge_meaning", "Merge", "means-between"),  # 02 [14]: each mean, rounding included, lies between 0 and 1
 ]
 

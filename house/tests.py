@@ -98,6 +98,19 @@ def definition_in_a_round(tree):
     write(path, path.read_text(encoding="utf-8") + "\nwrong: again: Again.\nrefused: is_set at returns\nfile: specs/First.antt\nold: first f n = seek f n 0\nnew: first f n = seek f n 1\n")
 
 
+def host_round(tree):
+    return tree / "crates/host/must-fail/round_1.edit"
+
+
+def caller_not_named(tree):
+    changed(host_round(tree), "refused: drasumira_coherence_default at says-entry\n", "")
+
+
+def caller_changed_too(tree):
+    path = host_round(tree)
+    write(path, path.read_text(encoding="utf-8") + "\nwrong: quarter: A quarter.\nrefused: drasumira_coherence_default at walk\nfile: src/lib.rt\nold: cd::DEFAULT_THRESHOLD,\nnew: 0.25,\n")
+
+
 def long_line(tree):
     changed(tree / "crates/base/proofs/Laws/Put.antt", "-- Laws of `put`: ", "-- Laws of `put`: " + "its length, " * 20)
 
@@ -197,6 +210,8 @@ FAULTS = [
     ("promises.py", refused_elsewhere),
     ("promises.py", function_twice_in_a_round),
     ("promises.py", definition_in_a_round),
+    ("promises.py", caller_not_named),
+    ("promises.py", caller_changed_too),
     ("habits.py", long_line),
     ("habits.py", path_without_name),
     ("habits.py", name_of_another),

@@ -3,7 +3,8 @@
 A file round_N.edit holds wrong programs that one check tries together: each changes another function, so each is refused by itself. A file
 definition_NAME.edit changes a definition, contract_NAME.edit a contract, constant_NAME.edit a constant: these stand alone, since what they change
 is used in many functions. The contract of a function that no other of its crate calls, as a host's entry, is used in its own proof alone: it may be changed
-in a round. Each program is a paragraph:
+in a round. So may that of one that is called, where each function that calls it is named as refused too and no other program of the round changes one of
+them. Each program is a paragraph:
 
     wrong: NAME: Which wrong program it is, in a sentence.
     refused: FUNCTION at NEED
@@ -118,10 +119,16 @@ def in_contract(text, at):
     return re.match(r"\s*(?:requires|ensures) \{", line) is not None
 
 
-def is_called(crate, function):
-    """Whether some function of the crate calls one of this name."""
+def callers(crate, function):
+    """The functions of the crate, by the folders of their proofs, that call one of this name."""
     name = function.rpartition("/")[2]
-    return any(re.search(rf"(?<!fn )\b{name}\(", path.read_text(encoding="utf-8")) for path in crate.glob("src/**/*.rt"))
+    found = set()
+    for path in sorted(crate.glob("src/**/*.rt")):
+        text, file = path.read_text(encoding="utf-8"), str(path.relative_to(crate))
+        for call in re.finditer(rf"(?<!fn )\b{name}\(", text):
+            caller = function_at(text, call.start()) or "no function"
+            found.add(folder(home(crate, file, caller), caller))
+    return found
 
 
 def cycle_of(crate, place):
@@ -182,14 +189,14 @@ def check(edit):
             functions = {folder(home(crate, f, g), g) for f, g in places if g and g != "const"}
             if len(functions) != 1 or any(g == "const" for _, g in places):
                 raise edit.says(f"{program.name}: it changes {sorted(functions)} or a constant, and not one function")
-            (function,) = functions
-            if program.contract and is_called(crate, function):
-                raise edit.says(f"{program.name}: it changes the contract of {function}, which other functions call: it stands alone, as contract_{program.name}.edit")
-            if function in seen:
-                raise edit.says(f"{program.name} and {seen[function]} change the same function, {function}")
-            seen[function] = program.name
-            if {place for place, _ in program.refused} != {cycle_of(crate, function)}:
-                raise edit.says(f"{program.name}: it changes {function}, and must be refused there")
+            # a changed contract is used where the function is called
+            functions |= callers(crate, *functions) if program.contract else set()
+            for function in sorted(functions):
+                if function in seen:
+                    raise edit.says(f"{program.name} and {seen[function]} change the same function, {function}")
+                seen[function] = program.name
+            if {place for place, _ in program.refused} != {cycle_of(crate, function) for function in functions}:
+                raise edit.says(f"{program.name}: it changes {', '.join(sorted(functions))}, and must be refused there")
 
 
 def all_edits(root):

@@ -1,10 +1,10 @@
 // Where the fault of a compact table lies: what is looked for once the quick test has failed.
 ghost use mathlib.Core.Path.{_≡_};
 ghost use Prim.Native.Nat.{_+_, _<_};
-ghost use Rattle.class_compact.specs.Form.{lettersIn};
-ghost use Rattle.class_compact.specs.Check as checks;
-ghost use Rattle.class_compact.specs.Inner.Form.{Filled};
-ghost use Rattle.class_compact.specs.Inner.Sound as inner;
+ghost use Rattle.class_compact_meaning.specs.Form.{lettersIn};
+ghost use Rattle.class_compact_meaning.specs.Check as checks;
+ghost use Rattle.class_compact_meaning.specs.Inner.Form.{Filled};
+ghost use Rattle.class_compact_meaning.specs.Inner.Sound as inner;
 use crate::COMPACT_RECORD;
 use crate::LETTERS_RECORD;
 use crate::form::base_at;

@@ -6,11 +6,11 @@ ghost use lib.ListN.{length};
 ghost use Rattle.base.specs.declared.Cause.the-variants.{Allowed};
 ghost use Rattle.base.specs.Causes.{refusedAt};
 ghost use Rattle.class_records.specs.Records.{goodTable};
-ghost use Rattle.class_compact.specs.Check.{badCompact};
-ghost use Rattle.class_compact.specs.Packed.{packedRecords, packedLetters};
-ghost use Rattle.class_compact.specs.Calls as calls;
-ghost use Rattle.class_compact.specs.Inner.Form.{Sized, wrongList};
-ghost use Rattle.class_compact.specs.Inner.Sound.{Expanded};
+ghost use Rattle.class_compact_meaning.specs.Check.{badCompact};
+ghost use Rattle.class_compact_meaning.specs.Packed.{packedRecords, packedLetters};
+ghost use Rattle.class_compact_meaning.specs.Calls as calls;
+ghost use Rattle.class_compact_meaning.specs.Inner.Form.{Sized, wrongList};
+ghost use Rattle.class_compact_meaning.specs.Inner.Sound.{Expanded};
 use base::Cause;
 use base::Counted;
 use base::Refusal;
@@ -20,6 +20,8 @@ use base::not_counted;
 use base::refusals::BAD_CLASSES;
 use base::refusals::NO_ROOM;
 use base::refuse;
+use class_compact_meaning::Packed;
+use class_compact_meaning::Packing;
 use expand::unpack_into;
 use fault::beyond_table;
 use form::lay;
@@ -48,18 +50,6 @@ pub const EXPANSION_ROOM: usize = MOST_CLASSES * CLASS_RECORD;
 const RECORDS_ROOM: usize = MOST_CLASSES * COMPACT_RECORD;
 
 const LETTERS_ROOM: usize = MOST_CLASSES * LETTERS_RECORD;
-
-// How many records and how many letters a table was packed to.
-pub struct Packed {
-    pub records: u32,
-    pub letters: u32,
-}
-
-// What packing answers.
-pub enum Packing {
-    Packed(Packed),
-    Refused(Refusal),
-}
 
 // Whether a compact class list is not whole records or too many.
 pub fn wrong_list(records: &[u8]) -> bool

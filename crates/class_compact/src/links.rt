@@ -1,7 +1,7 @@
 // Letters that were met are found again: each mark has the place of the letters that came first with it, and each letters have two slots for those that
 // came to them later. A bit of the two numbers says which of the two, so that letters are found in as many turns as they have bits at most, whatever
 // the letters are.
-ghost use Rattle.class_compact.specs.Inner.Links.{Mark, Linked, Slot};
+ghost use Rattle.class_compact_meaning.specs.Inner.Links.{Mark, Linked, Slot};
 use crate::form::HALF;
 use crate::form::base_at;
 use crate::form::lower_at;

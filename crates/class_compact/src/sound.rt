@@ -2,10 +2,10 @@
 ghost use mathlib.Core.Path.{_≡_};
 ghost use Prim.Native.Nat.{_≤_, _<_};
 ghost use Rattle.base.specs.Limits.{MOST-CLASSES};
-ghost use Rattle.class_compact.specs.Form.{lettersIn};
-ghost use Rattle.class_compact.specs.Inner.Form.{Sized};
-ghost use Rattle.class_compact.specs.Inner.Links.{Linked};
-ghost use Rattle.class_compact.specs.Inner.Sound as inner;
+ghost use Rattle.class_compact_meaning.specs.Form.{lettersIn};
+ghost use Rattle.class_compact_meaning.specs.Inner.Form.{Sized};
+ghost use Rattle.class_compact_meaning.specs.Inner.Links.{Linked};
+ghost use Rattle.class_compact_meaning.specs.Inner.Sound as inner;
 use crate::LETTERS_RECORD;
 use crate::form::base_at;
 use crate::form::lower_at;

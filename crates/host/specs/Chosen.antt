@@ -3,8 +3,8 @@
 -- empty. Not here: the verdict and the part (crate md_chooser).
 -- Assumes nothing.
 use Prim.Native.Nat.{ℕ}
-use Rattle.md_chooser.specs.declared.Judged.{Judged}
-use Rattle.md_chooser.specs.Choose.{values}
+use Rattle.md_chooser_meaning.specs.declared.Judged.{Judged}
+use Rattle.md_chooser_meaning.specs.Choose.{values}
 use Rattle.host.specs.declared.HostChosen.{HostChosen}
 
 unfoldable pub hostChosen : Judged → ℕ → HostChosen

@@ -1,7 +1,7 @@
 -- The flat form of packing's answer at the host's boundary (02 [9]): exactly its values, in the order of the struct's fields.
 -- Assumes nothing.
-use Rattle.class_compact.specs.declared.Packing.{Packing}
-use Rattle.class_compact.specs.Calls.{values}
+use Rattle.class_compact_meaning.specs.declared.Packing.{Packing}
+use Rattle.class_compact_meaning.specs.Calls.{values}
 use Rattle.host.specs.declared.HostPacked.{HostPacked}
 
 unfoldable pub hostPacked : Packing → HostPacked

@@ -9,8 +9,8 @@ use Rattle.ratio.specs.declared.Shown.{Shown}
 use Rattle.ratio.specs.declared.EightShown.{EightShown}
 use Rattle.md_meaning.specs.declared.Scored.{Scored}
 use Rattle.md_meaning.specs.Values.{Values as ScoreValues, values as scoreValues}
-use Rattle.md_chooser.specs.declared.Judged.{Judged}
-use Rattle.md_chooser.specs.Choose.{values as verdictValues}
+use Rattle.md_chooser_meaning.specs.declared.Judged.{Judged}
+use Rattle.md_chooser_meaning.specs.Choose.{values as verdictValues}
 use Rattle.ring_meaning.specs.declared.Ringed.{Ringed}
 use Rattle.ring_meaning.specs.Calls.{values as ringValues}
 use Rattle.host.specs.declared.HostCounts.{HostCounts}

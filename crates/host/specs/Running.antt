@@ -6,9 +6,9 @@ use mathlib.Core.List.{List}
 use Rattle.md_running_meaning.specs.Feeding.{feedLine}
 use Rattle.md_running_meaning.specs.Chunk.{feedChunk}
 use Rattle.md_running_meaning.specs.Closing.{closeLine}
-use Rattle.md_lent.specs.declared.HostRunning.{HostRunning}
-use Rattle.md_lent.specs.declared.LentFed.{LentFed}
-use Rattle.md_lent.specs.Lent.{runningOf, fedLent}
+use Rattle.md_lent_meaning.specs.declared.HostRunning.{HostRunning}
+use Rattle.md_lent_meaning.specs.declared.LentFed.{LentFed}
+use Rattle.md_lent_meaning.specs.Lent.{runningOf, fedLent}
 use Rattle.host.specs.declared.HostFed.{HostFed}
 use Rattle.host.specs.declared.HostScore.{HostScore}
 use Rattle.host.specs.Host.{hostCounted, hostScore}

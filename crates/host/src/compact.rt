@@ -1,7 +1,7 @@
 // The entries of the compact class table: packing, unpacking, and scoring with it.
 ghost use mathlib.Core.Path.{_≡_};
 ghost use lib.ListN.{length};
-ghost use Rattle.class_compact.specs.Calls as calls;
+ghost use Rattle.class_compact_meaning.specs.Calls as calls;
 ghost use Rattle.md_compact.specs.Scoring.{messRatioCompact, messRatioCompactDefault, messRatioUtf8Compact, messRatioUtf8CompactDefault};
 ghost use Rattle.md_compact.specs.Lines as lines;
 ghost use Rattle.host.specs.Compact.{hostPacked};
@@ -12,7 +12,7 @@ use crate::HostScore;
 use crate::flat::flat_counted;
 use crate::flat::flat_scored;
 use base::refusals::ACCEPTED;
-use class_compact::Packing;
+use class_compact_meaning::Packing;
 
 fn flat_packed(packing: Packing) -> HostPacked
     ensures { λ r. ⌜ r ≡ hostPacked packing ⌝ }

@@ -5,8 +5,8 @@ use crate::HostFed;
 use crate::HostScore;
 use crate::flat::flat_counted;
 use crate::flat::flat_scored;
-use md_lent::HostRunning;
-use md_lent::LentFed;
+use md_lent_meaning::HostRunning;
+use md_lent_meaning::LentFed;
 
 fn flat_fed(fed: LentFed) -> HostFed
     ensures { λ r. ⌜ r ≡ hostFed fed ⌝ }

@@ -1,27 +1,14 @@
 // The chooser (document 01, "The scan"): the more readable of two lent texts, and the verdict on them.
 ghost use mathlib.Core.Path.{_≡_};
 ghost use lib.ListN.{length};
-ghost use Rattle.md_chooser.specs.Inner.Cut.{CutLength};
-ghost use Rattle.md_chooser.specs.Inner.Part.{PartLength};
-ghost use Rattle.md_chooser.specs.Choose.{chosen, takenFrom, verdictOf};
-ghost use Rattle.md_chooser.specs.Choose.{judged as judgedBy};
-use base::Refusal;
+ghost use Rattle.md_chooser_meaning.specs.Inner.Cut.{CutLength};
+ghost use Rattle.md_chooser_meaning.specs.Inner.Part.{PartLength};
+ghost use Rattle.md_chooser_meaning.specs.Choose.{chosen, takenFrom, verdictOf};
+ghost use Rattle.md_chooser_meaning.specs.Choose.{judged as judgedBy};
 use base::limits::NEWLINE;
+use md_chooser_meaning::Judged;
+use md_chooser_meaning::Part;
 use md_meaning::Scored;
-
-// What the verdict call says: which text is the more readable, or which was refused, and why.
-pub enum Judged {
-    First,
-    Second,
-    FirstRefused(Refusal),
-    SecondRefused(Refusal),
-}
-
-// The verdict, and how many code points are handed back: what `choose` answers, in numbers, for a host to which no slice crosses.
-pub struct Part {
-    pub judged: Judged,
-    pub length: u32,
-}
 
 // The more readable of two texts, each scored whole: the part before its trailing newlines. An empty part of the first where either is
 // refused; `verdict` says which and why.

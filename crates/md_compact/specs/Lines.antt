@@ -13,8 +13,8 @@ use Rattle.classes.specs.Pairs.{badPairs}
 use Rattle.ratio.specs.Finite.{notFinite}
 use Rattle.md_lines_meaning.specs.Lines.{linesOf}
 use Rattle.md_lines_meaning.specs.Burst.{manyBytes, noRoom, rows}
-use Rattle.class_compact.specs.Unpacked.{unpacked}
-use Rattle.class_compact.specs.Check.{badCompact}
+use Rattle.class_compact_meaning.specs.Unpacked.{unpacked}
+use Rattle.class_compact_meaning.specs.Check.{badCompact}
 
 module _ (bytes : List ℕ) (threshold : Float) (c l pairs : List ℕ) where
   -- 1, 4, 5, 7, 3, in a call whose output has this room

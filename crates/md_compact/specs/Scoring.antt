@@ -15,8 +15,8 @@ use Rattle.md_meaning.specs.declared.Limit.the-variants.{Threshold}
 use Rattle.md_meaning.specs.declared.Scored.{Scored}
 use Rattle.md_meaning.specs.MessRatio.{DEFAULT-THRESHOLD, tooLong}
 use Rattle.md_meaning.specs.Scan.{acceptedScore, noClass, unless}
-use Rattle.class_compact.specs.Unpacked.{unpacked}
-use Rattle.class_compact.specs.Check.{badCompact}
+use Rattle.class_compact_meaning.specs.Unpacked.{unpacked}
+use Rattle.class_compact_meaning.specs.Check.{badCompact}
 
 module _ (c l pairs : List ℕ) where
   -- 5, 7, 6 of a text

@@ -1,8 +1,8 @@
 // Scoring with a class table in the compact form. It is expanded once a call, in a room of EXPANSION_ROOM bytes, and then scored as the expansion is: that
 // checks the records, so that here only the letters are checked.
 ghost use mathlib.Core.Path.{_≡_};
-ghost use Rattle.class_compact.specs.Inner.Form.{Sized};
-ghost use Rattle.class_compact.specs.Inner.Sound.{Expanded};
+ghost use Rattle.class_compact_meaning.specs.Inner.Form.{Sized};
+ghost use Rattle.class_compact_meaning.specs.Inner.Sound.{Expanded};
 ghost use Rattle.md_compact.specs.Scoring.{messRatioCompact, messRatioCompactDefault};
 use base::Cause;
 use base::Refusal;

@@ -1,8 +1,8 @@
 // Many lines in one call, with a compact class table that is expanded once for all of them.
 ghost use mathlib.Core.Path.{_≡_};
 ghost use lib.ListN.{length};
-ghost use Rattle.class_compact.specs.Inner.Form.{Sized};
-ghost use Rattle.class_compact.specs.Inner.Sound.{Expanded};
+ghost use Rattle.class_compact_meaning.specs.Inner.Form.{Sized};
+ghost use Rattle.class_compact_meaning.specs.Inner.Sound.{Expanded};
 ghost use Rattle.md_compact.specs.Lines as lines;
 use crate::first::first_of_burst;
 use base::Cause;

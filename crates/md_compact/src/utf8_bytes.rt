@@ -1,7 +1,7 @@
 // The same of UTF-8 bytes.
 ghost use mathlib.Core.Path.{_≡_};
-ghost use Rattle.class_compact.specs.Inner.Form.{Sized};
-ghost use Rattle.class_compact.specs.Inner.Sound.{Expanded};
+ghost use Rattle.class_compact_meaning.specs.Inner.Form.{Sized};
+ghost use Rattle.class_compact_meaning.specs.Inner.Sound.{Expanded};
 ghost use Rattle.md_compact.specs.Scoring.{messRatioUtf8Compact, messRatioUtf8CompactDefault};
 use crate::first::first_of_bytes;
 use base::Cause;

@@ -7,7 +7,7 @@ ghost use Rattle.base.specs.declared.Cause.the-variants.{Allowed};
 ghost use Rattle.base.specs.Put.{put};
 ghost use Rattle.md_meaning.specs.Inner.Lent.{badLent};
 ghost use Rattle.md_utf8.specs.Inner.Lendable.{Lendable};
-ghost use Rattle.md_utf8.specs.ScoreUtf8.{messRatioUtf8};
+ghost use Rattle.md_utf8_meaning.specs.ScoreUtf8.{messRatioUtf8};
 ghost use Rattle.md_lines_meaning.specs.Lines.{linesOf};
 ghost use Rattle.md_lines_meaning.specs.Burst as bursts;
 use crate::NUMBERS_PER_LINE;

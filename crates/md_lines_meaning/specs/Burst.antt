@@ -22,7 +22,7 @@ use Rattle.ratio.specs.Shown.{NUMBERS-SHOWN, shownNumbers}
 use Rattle.md_meaning.specs.declared.Scored.{Scored}
 use Rattle.ratio.specs.Finite.{notFinite}
 use Rattle.md_meaning.specs.Values.{Values, values}
-use Rattle.md_utf8.specs.ScoreUtf8.{messRatioUtf8}
+use Rattle.md_utf8_meaning.specs.ScoreUtf8.{messRatioUtf8}
 use Rattle.md_lines_meaning.specs.Lines.{linesOf}
 
 -- u32 of the output for each line

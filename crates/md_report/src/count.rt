@@ -7,10 +7,10 @@ ghost use mathlib.Core.Path.{_≡_};
 ghost use Prim.Native.Nat.{_+_, _<_, _≤_};
 ghost use lib.ListN.{length, getD, set};
 ghost use Rattle.ratio.specs.Eight.{DETECTORS};
-ghost use Rattle.md_report.specs.Rows.{WORDS, linesIn, word};
-ghost use Rattle.md_report.specs.Bins.{LAST-BIN, OTHER, sumTo, zeroBits, binOf, binAt, kindOf};
-ghost use Rattle.md_report.specs.Report.{MOST-LINES};
-ghost use Rattle.md_report.specs.Inner.Counts.{Few, Line, Place, Counts, binsAfter, kindsAfter};
+ghost use Rattle.md_report_meaning.specs.Rows.{WORDS, linesIn, word};
+ghost use Rattle.md_report_meaning.specs.Bins.{LAST-BIN, OTHER, sumTo, zeroBits, binOf, binAt, kindOf};
+ghost use Rattle.md_report_meaning.specs.Report.{MOST-LINES};
+ghost use Rattle.md_report_meaning.specs.Inner.Counts.{Few, Line, Place, Counts, binsAfter, kindsAfter};
 
 // where a detector's ratio and its numbers stand in a row
 const NUMBER_AT: usize = 0;

@@ -13,7 +13,7 @@ use ratio::DETECTORS;
 use text::write_report;
 ghost use mathlib.Core.Path.{_≡_};
 ghost use lib.ListN.{length};
-ghost use Rattle.md_report.specs.Report.{reportAnswer, reportInto};
+ghost use Rattle.md_report_meaning.specs.Report.{reportAnswer, reportInto};
 
 // bins of a detector
 pub const BINS: usize = 513;

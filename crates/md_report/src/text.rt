@@ -12,10 +12,10 @@ ghost use lib.ListN.{length};
 ghost use Rattle.pieces.specs.Inner.Pieces.{Goes};
 ghost use Rattle.pieces.specs.Numerals.{MOST-DIGITS};
 ghost use Rattle.ratio.specs.Eight.{DETECTORS};
-ghost use Rattle.md_report.specs.Report.{LONGEST-REPORT};
-ghost use Rattle.md_report.specs.Text.{joined, binLine, detectorText, totalLine, reportText};
-ghost use Rattle.md_report.specs.Inner.Counts.{Few};
-ghost use Rattle.md_report.specs.Inner.Written.{binLines, totals, Ended, SPARE};
+ghost use Rattle.md_report_meaning.specs.Report.{LONGEST-REPORT};
+ghost use Rattle.md_report_meaning.specs.Text.{joined, binLine, detectorText, totalLine, reportText};
+ghost use Rattle.md_report_meaning.specs.Inner.Counts.{Few};
+ghost use Rattle.md_report_meaning.specs.Inner.Written.{binLines, totals, Ended, SPARE};
 
 // Puts the line of a bin, and nothing where the bin is empty.
 fn put_bin(out: &mut [u8], at: usize, detector: u32, bin: u32, count: u32) -> usize

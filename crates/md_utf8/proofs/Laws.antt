@@ -1,3 +1,1 @@
-pub mod Accepted
 pub mod Lendable
-pub mod ScoreUtf8

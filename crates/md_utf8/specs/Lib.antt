@@ -1,2 +1,1 @@
-pub mod ScoreUtf8
 pub mod Inner

@@ -1,6 +1,6 @@
 // Scoring of UTF-8 bytes: reading and mess_ratio in one call, with no lent output.
 ghost use mathlib.Core.Path.{_≡_};
-ghost use Rattle.md_utf8.specs.ScoreUtf8.{messRatioUtf8, messRatioUtf8Default};
+ghost use Rattle.md_utf8_meaning.specs.ScoreUtf8.{messRatioUtf8, messRatioUtf8Default};
 use base::Cause;
 use base::Counted;
 use classes::HINTS;

@@ -8,7 +8,7 @@ ghost use Rattle.utf8.specs.Inner.Readable.{Readable};
 ghost use Rattle.md_meaning.specs.MessRatio.{messRatio};
 ghost use Rattle.md_utf8.specs.Inner.Lendable.{Lendable};
 ghost use Rattle.md_utf8.specs.Inner.Rooms as rooms;
-ghost use Rattle.md_utf8.specs.ScoreUtf8.{messRatioUtf8};
+ghost use Rattle.md_utf8_meaning.specs.ScoreUtf8.{messRatioUtf8};
 use base::Counted;
 use base::limits::LONGEST_TEXT;
 use class_builtin::Table;

@@ -12,7 +12,7 @@ use Rattle.base.specs.Limits.{PAIR-BYTES}
 use Rattle.base.specs.Refusals.{TOO-LONG}
 use Rattle.md_meaning.specs.declared.Scored.{Scored}
 use Rattle.md_meaning.specs.Scan.{unless}
-use Rattle.md_utf8.specs.ScoreUtf8.{messRatioUtf8}
+use Rattle.md_utf8_meaning.specs.ScoreUtf8.{messRatioUtf8}
 
 -- "up to 4,096 bytes"
 abbrev pub LONGEST-INPUT : ℕ

@@ -1,5 +1,6 @@
 // The program: the bytes of standard input in, the line for standard output out. `report` is the whole of it; `run` only reads and writes.
 ghost use mathlib.Core.Path.{_≡_};
+ghost use Rattle.md_utf8_meaning.specs.ScoreUtf8.{messRatioUtf8};
 ghost use Rattle.program.specs.Program as program;
 ghost use Rattle.program.specs.Line.{Reported};
 use base::limits::PAIR_BYTES;
@@ -34,16 +35,23 @@ fn no_pairs() -> [u8; PAIR_BYTES]
     [0; PAIR_BYTES]
 }
 
-// The score of the bytes, or their refusal, with no class records and an all-zero pair table.
+// The score of bytes that are not too many, with no class records and an all-zero pair table.
+fn score_input(bytes: &[u8]) -> Scored
+    ensures { λ r. ⌜ r ≡ messRatioUtf8 (now (bytes .entry)) program.THRESHOLD program.NO-CLASSES program.NO-PAIRS ⌝ }
+{
+    let classes: [u8; 0] = [];
+    let pairs = no_pairs();
+    mess_ratio_utf8(bytes, THRESHOLD, &classes, &pairs)
+}
+
+// The score of the bytes, or their refusal.
 pub fn answer(bytes: &[u8]) -> Scored
     ensures { λ r. ⌜ r ≡ program.answer (now (bytes .entry)) ⌝ }
 {
     if bytes.len() > LONGEST_INPUT {
         return unscored(TOO_LONG, 0);
     }
-    let classes: [u8; 0] = [];
-    let pairs = no_pairs();
-    mess_ratio_utf8(bytes, THRESHOLD, &classes, &pairs)
+    score_input(bytes)
 }
 
 // Puts the line for the bytes into the first places of out, and answers how long it is.

@@ -10,13 +10,13 @@ use Rattle.base.specs.Limits.{MOST-CLASSES}
 use Rattle.base.specs.Put.{put}
 use Rattle.base.proofs.Laws.Put.{put-nothing, put-length, put-part, put-on}
 use Rattle.class_records.specs.Records.{records}
-use Rattle.class_compact.specs.Form.{COMPACT-RECORD, LETTERS-RECORD, lettersIn, joined}
-use Rattle.class_compact.specs.Packed.{newLetters, lettersBefore, compacted, packedRecords, packedLetters}
-use Rattle.class_compact.specs.Inner.Gathered.{Placed, Gathered}
-use Rattle.class_compact.specs.Inner.Links.{LINKS, Linked}
-use Rattle.class_compact.proofs.Laws.Links.{linked-start}
-use Rattle.class_compact.proofs.Laws.Packed.{compacted-length}
-use Rattle.class_compact.proofs.Laws.Numbering.{before-length, before-more, number-few}
+use Rattle.class_compact_meaning.specs.Form.{COMPACT-RECORD, LETTERS-RECORD, lettersIn, joined}
+use Rattle.class_compact_meaning.specs.Packed.{newLetters, lettersBefore, compacted, packedRecords, packedLetters}
+use Rattle.class_compact_meaning.specs.Inner.Gathered.{Placed, Gathered}
+use Rattle.class_compact_meaning.specs.Inner.Links.{LINKS, Linked}
+use Rattle.class_compact_meaning.proofs.Laws.Links.{linked-start}
+use Rattle.class_compact_meaning.proofs.Laws.Packed.{compacted-length}
+use Rattle.class_compact_meaning.proofs.Laws.Numbering.{before-length, before-more, number-few}
 use Rattle.class_compact.proofs.Loops.Laying.{Laying, laying-start, laying-more, laying-end}
 
 pub record Gathering (t packed₀ used₀ packed used : List ℕ) (count : ℕ) (links : List ℕ) (i : ℕ) : Type 0 where

@@ -11,9 +11,9 @@ use Rattle.base.specs.First.{each}
 use Rattle.base.specs.Inner.Numbers.{Picked}
 use Rattle.base.proofs.Laws.First.{each-more}
 use Rattle.base.proofs.Laws.Tests.{by-test}
-use Rattle.class_compact.specs.Form.{compactRecords}
-use Rattle.class_compact.specs.Inner.Form.{Place, HALF}
-use Rattle.class_compact.specs.Inner.Sound.{seenBefore, nextOnly, inFirstUse}
+use Rattle.class_compact_meaning.specs.Form.{compactRecords}
+use Rattle.class_compact_meaning.specs.Inner.Form.{Place, HALF}
+use Rattle.class_compact_meaning.specs.Inner.Sound.{seenBefore, nextOnly, inFirstUse}
 
 pub record Seen (c : List ℕ) (i seen : ℕ) (good : Bool) : Type 0 where
   pub below : i ≤ compactRecords c

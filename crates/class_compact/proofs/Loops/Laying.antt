@@ -8,8 +8,8 @@ use native.Mathlib.Omega.{arith}
 use lib.ListN.{length}
 use Rattle.base.specs.Put.{put}
 use Rattle.base.proofs.Laws.Put.{put-nothing, put-length, put-on}
-use Rattle.class_compact.specs.Form.{joined}
-use Rattle.class_compact.proofs.Laws.Form.{joined-more, joined-length}
+use Rattle.class_compact_meaning.specs.Form.{joined}
+use Rattle.class_compact_meaning.proofs.Laws.Form.{joined-more, joined-length}
 
 pub record Laying (f : ℕ → List ℕ) (w n : ℕ) (old out : List ℕ) (i : ℕ) : Type 0 where
   pub each : (j : ℕ) → length (f j) ≡ w

@@ -10,12 +10,12 @@ use lib.ListN.{getD}
 use Rattle.base.specs.First.{first}
 use Rattle.base.proofs.Laws.First.{first-is, first-none}
 use Rattle.base.proofs.Laws.Tests.{by-bool, split}
-use Rattle.class_compact.specs.Form.{baseAt, lowerAt}
-use Rattle.class_compact.specs.Check.{lettersAre}
-use Rattle.class_compact.specs.Inner.Links.{MARKS, LINKS, Mark, bitsOf, bitsAfter, slotAt, Passed, Held, Linked, Walked, Slot}
-use Rattle.class_compact.proofs.Laws.Firsts.{clash}
-use Rattle.class_compact.proofs.Laws.Links.{none-below}
-use Rattle.class_compact.proofs.Laws.Numbering.{both}
+use Rattle.class_compact_meaning.specs.Form.{baseAt, lowerAt}
+use Rattle.class_compact_meaning.specs.Check.{lettersAre}
+use Rattle.class_compact_meaning.specs.Inner.Links.{MARKS, LINKS, Mark, bitsOf, bitsAfter, slotAt, Passed, Held, Linked, Walked, Slot}
+use Rattle.class_compact_meaning.proofs.Laws.Firsts.{clash}
+use Rattle.class_compact_meaning.proofs.Laws.Links.{none-below}
+use Rattle.class_compact_meaning.proofs.Laws.Numbering.{both}
 
 pub record Walking (l : List ℕ) (count base lower : ℕ) (links : List ℕ) (slot bits : ℕ) : Type 0 where
   pub linked : Linked l count links

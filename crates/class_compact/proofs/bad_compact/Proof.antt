@@ -1,5 +1,5 @@
 -- A wrong length or number, or what the expansion shows. Assumes nothing.
-use Rattle.class_compact.proofs.Laws.Sound.{wrong-refused, right-sized}
+use Rattle.class_compact_meaning.proofs.Laws.Sound.{wrong-refused, right-sized}
 use borrow.Author.Needs.{needs}
 use mathlib.Core.Path.{sym, _∙_}
 use Rattle.class_compact.proofs.bad_compact.Statement.{statement}

@@ -1,5 +1,5 @@
 -- What lies beyond the expansion and then its own check is the check. Assumes nothing.
-use Rattle.class_compact.proofs.Laws.Calls.{filled-refused, filled-allowed}
+use Rattle.class_compact_meaning.proofs.Laws.Calls.{filled-refused, filled-allowed}
 use borrow.Author.Needs.{needs}
 use mathlib.Core.Path.{sym, _∙_}
 use Rattle.class_compact.proofs.bad_filled.Statement.{statement}

@@ -1,7 +1,7 @@
 -- By the cause. Assumes nothing.
 use Rattle.base.proofs.Laws.Counted.{counted-allowed, counted-refused}
-use Rattle.class_compact.proofs.Laws.Calls.{allowed-few}
-use Rattle.class_compact.specs.Calls.{checkAnswer}
+use Rattle.class_compact_meaning.proofs.Laws.Calls.{allowed-few}
+use Rattle.class_compact_meaning.specs.Calls.{checkAnswer}
 use borrow.Author.Needs.{needs}
 use mathlib.Core.Path.{sym, _∙_}
 use native.Mathlib.Omega.{arith}

@@ -1,5 +1,5 @@
 -- By the cause. Assumes nothing.
-use Rattle.class_compact.proofs.Laws.Calls.{pack-bad}
+use Rattle.class_compact_meaning.proofs.Laws.Calls.{pack-bad}
 use Rattle.classes.proofs.Laws.Check.{free-good}
 use borrow.Author.Needs.{needs}
 use mathlib.Core.Path.{sym, _∙_}

@@ -1,9 +1,9 @@
 -- The fronts of the rooms are the packed table. Assumes nothing.
 use Prim.Native.Nat.{_*_}
 use Rattle.base.specs.Limits.{MOST-CLASSES}
-use Rattle.class_compact.specs.Form.{COMPACT-RECORD, LETTERS-RECORD}
-use Rattle.class_compact.proofs.Laws.Links.{zeros-length}
-use Rattle.class_compact.proofs.Laws.Calls.{letters-few, room-fits, records-front, letters-front}
+use Rattle.class_compact_meaning.specs.Form.{COMPACT-RECORD, LETTERS-RECORD}
+use Rattle.class_compact_meaning.proofs.Laws.Links.{zeros-length}
+use Rattle.class_compact_meaning.proofs.Laws.Calls.{letters-few, room-fits, records-front, letters-front}
 use Rattle.class_records.proofs.Laws.Records.{table-number}
 use borrow.Author.Needs.{needs}
 use lib.ListN.{length-take}

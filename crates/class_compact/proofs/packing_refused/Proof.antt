@@ -1,6 +1,6 @@
 -- The case of a refusal. Assumes nothing.
 use Rattle.base.specs.Causes.{refusedAt}
-use Rattle.class_compact.specs.Calls.{packedUnless}
+use Rattle.class_compact_meaning.specs.Calls.{packedUnless}
 use mathlib.Core.Path.{refl}
 use Rattle.class_compact.proofs.packing_refused.Statement.{statement}
 use Rattle.class_compact.proofs.packing_refused.Tie as tie

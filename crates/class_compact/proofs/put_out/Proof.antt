@@ -1,6 +1,6 @@
 -- Each return is one of the causes, or the packed table in its outputs. Assumes nothing.
-use Rattle.class_compact.proofs.Laws.Calls.{room-first, room-second, letters-few, pack-short, pack-done}
-use Rattle.class_compact.specs.Form.{lettersIn}
+use Rattle.class_compact_meaning.proofs.Laws.Calls.{room-first, room-second, letters-few, pack-short, pack-done}
+use Rattle.class_compact_meaning.specs.Form.{lettersIn}
 use Rattle.class_records.proofs.Laws.Records.{table-number}
 use borrow.Author.Needs.{needs}
 use denote.Ref.{now}

@@ -1,5 +1,5 @@
 -- Each return is one of the causes, in their order, or the expansion in the output. Assumes nothing.
-use Rattle.class_compact.proofs.Laws.Calls.{allowed-few, unpack-bad, unpack-short, unpack-done}
+use Rattle.class_compact_meaning.proofs.Laws.Calls.{allowed-few, unpack-bad, unpack-short, unpack-done}
 use borrow.Author.Needs.{needs}
 use mathlib.Core.Path.{sym, _∙_}
 use native.Mathlib.Omega.{arith}

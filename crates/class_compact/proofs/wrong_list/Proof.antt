@@ -1,5 +1,5 @@
 -- The same tests. Assumes nothing.
-use Rattle.class_compact.specs.Inner.Form.{wrongList}
+use Rattle.class_compact_meaning.specs.Inner.Form.{wrongList}
 use mathlib.Core.Path.{refl}
 use Rattle.class_compact.proofs.wrong_list.Statement.{statement}
 use Rattle.class_compact.proofs.wrong_list.Tie as tie

@@ -2,7 +2,7 @@
 -- Assumes nothing.
 use Prim.Native.Nat.{ℕ}
 use mathlib.Core.Path.{_≡_}
-use Rattle.md_chooser.specs.declared.Judged.{Judged}
+use Rattle.md_chooser_meaning.specs.declared.Judged.{Judged}
 use Rattle.host.specs.declared.HostChosen.{HostChosen}
 use Rattle.host.specs.declared.HostVerdict.{HostVerdict}
 use Rattle.host.specs.Chosen.{hostChosen}

@@ -4,10 +4,10 @@ use Prim.Native.Nat.{ℕ}
 use mathlib.Core.Path.{_≡_}
 use Rattle.base.specs.declared.Refusal.{Refusal}
 use Rattle.base.specs.Refusals.{ACCEPTED}
-use Rattle.class_compact.specs.declared.Packed.{Packed}
-use Rattle.class_compact.specs.declared.Packing.{Packing}
-use Rattle.class_compact.specs.declared.Packing.the-variants.{Packed as Done, Refused}
-use Rattle.class_compact.specs.Calls.{values}
+use Rattle.class_compact_meaning.specs.declared.Packed.{Packed}
+use Rattle.class_compact_meaning.specs.declared.Packing.{Packing}
+use Rattle.class_compact_meaning.specs.declared.Packing.the-variants.{Packed as Done, Refused}
+use Rattle.class_compact_meaning.specs.Calls.{values}
 use Rattle.host.specs.declared.HostPacked.{HostPacked}
 use Rattle.host.specs.Compact.{hostPacked}
 

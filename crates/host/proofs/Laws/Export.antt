@@ -27,11 +27,11 @@ use Rattle.md_meaning.specs.declared.Scored.the-variants.{Refused, Score as Tol
 use Rattle.md_meaning.specs.MessRatio.{wholeScore}
 use Rattle.md_meaning.specs.Scan.{classAt, unclassed}
 use Rattle.md_meaning.proofs.Laws.Default.{whole-faultless}
-use Rattle.md_chooser.specs.declared.Judged.{Judged}
-use Rattle.md_chooser.specs.declared.Judged.the-variants.{First, Second, FirstRefused, SecondRefused}
-use Rattle.md_chooser.specs.Cut.{onlyNewlines, cut}
-use Rattle.md_chooser.specs.Choose.{judged, verdictOf, partOf, chosen}
-use Rattle.md_chooser.proofs.Laws.Cut.{cut-within}
+use Rattle.md_chooser_meaning.specs.declared.Judged.{Judged}
+use Rattle.md_chooser_meaning.specs.declared.Judged.the-variants.{First, Second, FirstRefused, SecondRefused}
+use Rattle.md_chooser_meaning.specs.Cut.{onlyNewlines, cut}
+use Rattle.md_chooser_meaning.specs.Choose.{judged, verdictOf, partOf, chosen}
+use Rattle.md_chooser_meaning.proofs.Laws.Cut.{cut-within}
 
 each-scalar : (cs : List ℕ) → ((j : ℕ) → j < length cs → scalar (getD cs j NEWLINE) ≡ true) → scalars cs ≡ true
 unfolding scalars

@@ -14,8 +14,8 @@ use denote.Laws.{Is, shows}
 use denote.Steps.{only, heard, facts}
 use denote.Struct.Laws as LL
 use Rattle.host.specs.declared.HostFed.{HostFed}
-use Rattle.md_lent.proofs.HostRunning as T
-use Rattle.md_lent.proofs.HostRunning.Laws as T′
+use Rattle.md_lent_meaning.proofs.HostRunning as T
+use Rattle.md_lent_meaning.proofs.HostRunning.Laws as T′
 use Rattle.host.proofs.HostFed as F
 use Rattle.host.proofs.HostFed.Laws as F′
 use Rattle.host.proofs.HostRead as N

@@ -19,9 +19,9 @@ use Rattle.md_meaning.specs.declared.Scored.{Scored}
 use Rattle.md_meaning.specs.declared.Scored.the-variants.{Score as Told, Refused as Unscored}
 use Rattle.md_meaning.specs.Values.{values as scoreValues}
 use Rattle.md_lines_meaning.specs.Burst.{numbers, rowNumbers}
-use Rattle.md_chooser.specs.declared.Judged.{Judged}
-use Rattle.md_chooser.specs.declared.Judged.the-variants.{First, Second, FirstRefused, SecondRefused}
-use Rattle.md_chooser.specs.Choose.{values as verdictValues}
+use Rattle.md_chooser_meaning.specs.declared.Judged.{Judged}
+use Rattle.md_chooser_meaning.specs.declared.Judged.the-variants.{First, Second, FirstRefused, SecondRefused}
+use Rattle.md_chooser_meaning.specs.Choose.{values as verdictValues}
 use Rattle.ring_meaning.specs.declared.Kept.{Kept}
 use Rattle.ring_meaning.specs.declared.Ringed.{Ringed}
 use Rattle.ring_meaning.specs.declared.Ringed.the-variants.{Kept as Keep, Refused as NotKept}

@@ -32,11 +32,11 @@ use denote.Triple.Table.{entered, cited}
 use denote.Triple.Clauses.{ensured, lasts}
 use denote.Triple.Walked.{says, Stays, stay-none-ref, walkOf, goes-none-ref, Walks, ends-at, walked, walk-meets}
 use denote.Exit.{yes}
-use Rattle.md_lent.specs.declared.HostRunning.{HostRunning}
+use Rattle.md_lent_meaning.specs.declared.HostRunning.{HostRunning}
 use Rattle.host.specs.declared.HostScore.{HostScore}
 use Rattle.host.specs.Running.{closedHost}
-use Rattle.md_lent.proofs.HostRunning as T
-use Rattle.md_lent.proofs.HostRunning.Laws as T′
+use Rattle.md_lent_meaning.proofs.HostRunning as T
+use Rattle.md_lent_meaning.proofs.HostRunning.Laws as T′
 use Rattle.host.proofs.HostScore as N
 use Rattle.host.proofs.HostScore.Laws as N′
 use Rattle.host.proofs.running.closed_flat as finish

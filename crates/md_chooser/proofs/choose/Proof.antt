@@ -1,7 +1,7 @@
 -- Each verdict hands back the part that the definition gives for it, and it lies where the text lies that the definition names. Assumes nothing.
 use mathlib.Core.Path.{sym, _∙_}
 use lib.Seq.{length-take-le}
-use Rattle.md_chooser.proofs.Laws.Choose.{
+use Rattle.md_chooser_meaning.proofs.Laws.Choose.{
   first-length,
   second-length,
   chosen-first,

@@ -1,6 +1,6 @@
 -- The part's length is at most that of a text that was scored, so that it fits. Assumes nothing.
 use native.Mathlib.Omega.{arith}
-use Rattle.md_chooser.proofs.Laws.Choose.{chosen-short, chosen-length}
+use Rattle.md_chooser_meaning.proofs.Laws.Choose.{chosen-short, chosen-length}
 use borrow.Author.Needs.{needs}
 use Rattle.md_chooser.proofs.choose_part.Statement.{statement}
 use Rattle.md_chooser.proofs.choose_part.Tie as tie

@@ -4,8 +4,8 @@ use mathlib.Core.Path.{_≡_, sym, ap, _∙_}
 use borrow.Author.Needs.{needs}
 use lib.ListN.{length, take}
 use lib.Seq.{take-length}
-use Rattle.md_chooser.specs.Cut.{cut}
-use Rattle.md_chooser.proofs.Laws.Cut.{cut-back, cut-found, cut-none}
+use Rattle.md_chooser_meaning.specs.Cut.{cut}
+use Rattle.md_chooser_meaning.proofs.Laws.Cut.{cut-back, cut-found, cut-none}
 use Rattle.md_chooser.proofs.cut_length.Statement.{statement}
 use Rattle.md_chooser.proofs.cut_length.Tie as tie
 

@@ -1,5 +1,5 @@
 -- The four cases of two answers. Assumes nothing.
-use Rattle.md_chooser.proofs.Laws.Choose.{judged-first, judged-second, lower-second, else-first}
+use Rattle.md_chooser_meaning.proofs.Laws.Choose.{judged-first, judged-second, lower-second, else-first}
 use borrow.Author.Needs.{needs}
 use Rattle.md_chooser.proofs.judge.Statement.{statement}
 use Rattle.md_chooser.proofs.judge.Tie as tie

@@ -1,5 +1,5 @@
 -- One law for each verdict. Assumes nothing.
-use Rattle.md_chooser.proofs.Laws.Choose.{length-first, length-second, length-refused, length-refused-second}
+use Rattle.md_chooser_meaning.proofs.Laws.Choose.{length-first, length-second, length-refused, length-refused-second}
 use borrow.Author.Needs.{needs}
 use Rattle.md_chooser.proofs.part_length.Statement.{statement}
 use Rattle.md_chooser.proofs.part_length.Tie as tie

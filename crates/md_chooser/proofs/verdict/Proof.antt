@@ -1,5 +1,5 @@
 -- Both texts are scored, and the verdict is on the two answers. Assumes nothing.
-use Rattle.md_chooser.specs.Choose.{verdictOf}
+use Rattle.md_chooser_meaning.specs.Choose.{verdictOf}
 use borrow.Author.Needs.{needs}
 use Rattle.md_chooser.proofs.verdict.Statement.{statement}
 use Rattle.md_chooser.proofs.verdict.Tie as tie

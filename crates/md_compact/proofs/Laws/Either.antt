@@ -34,19 +34,19 @@ use Rattle.md_meaning.specs.MessRatio.{DEFAULT-THRESHOLD, tooLong, causes, mess
 use Rattle.md_meaning.specs.Scan.{acceptedScore, noClass, unless}
 use Rattle.md_meaning.proofs.Laws.MessRatio.{default-finite}
 use Rattle.md_meaning.proofs.Laws.Scan.{unless-refused}
-use Rattle.md_utf8.specs.ScoreUtf8.{causesUtf8, messRatioUtf8}
+use Rattle.md_utf8_meaning.specs.ScoreUtf8.{causesUtf8, messRatioUtf8}
 use Rattle.md_lines_meaning.specs.Lines.{linesOf}
 use Rattle.md_lines_meaning.specs.Burst as bursts
-use Rattle.class_compact.specs.Form.{Bytes}
-use Rattle.class_compact.specs.Unpacked.{unpacked}
-use Rattle.class_compact.specs.Check.{badCompact}
-use Rattle.class_compact.specs.Packed.{packedRecords, packedLetters}
-use Rattle.class_compact.specs.Inner.Form.{Sized, wrongList}
-use Rattle.class_compact.specs.Inner.Sound.{beyondTable}
-use Rattle.class_compact.proofs.Laws.Back.{allowed-sized}
-use Rattle.class_compact.proofs.Laws.Calls.{filled-refused}
-use Rattle.class_compact.proofs.Laws.Packing.{packed-back, packed-good}
-use Rattle.class_compact.proofs.Laws.Sound.{by-cause, beyond-then, wrong-refused, table-allowed, good-parts}
+use Rattle.class_compact_meaning.specs.Form.{Bytes}
+use Rattle.class_compact_meaning.specs.Unpacked.{unpacked}
+use Rattle.class_compact_meaning.specs.Check.{badCompact}
+use Rattle.class_compact_meaning.specs.Packed.{packedRecords, packedLetters}
+use Rattle.class_compact_meaning.specs.Inner.Form.{Sized, wrongList}
+use Rattle.class_compact_meaning.specs.Inner.Sound.{beyondTable}
+use Rattle.class_compact_meaning.proofs.Laws.Back.{allowed-sized}
+use Rattle.class_compact_meaning.proofs.Laws.Calls.{filled-refused}
+use Rattle.class_compact_meaning.proofs.Laws.Packing.{packed-back, packed-good}
+use Rattle.class_compact_meaning.proofs.Laws.Sound.{by-cause, beyond-then, wrong-refused, table-allowed, good-parts}
 use Rattle.md_compact.specs.Scoring.{messRatioCompact, messRatioCompactDefault, messRatioUtf8Compact, messRatioUtf8CompactDefault}
 use Rattle.md_compact.specs.Lines.{linesCauses, linesAnswer, linesAfter}
 

@@ -1,6 +1,6 @@
 -- A refusal leaves the numbers as they are, and a count what is left of them. Assumes nothing.
 use borrow.Author.Needs.{needs}
-use Rattle.md_lent.proofs.Laws.Lent.{left-refused, left-counted}
+use Rattle.md_lent_meaning.proofs.Laws.Lent.{left-refused, left-counted}
 use Rattle.md_lent.proofs.fed_lent.Statement.{statement}
 use Rattle.md_lent.proofs.fed_lent.Tie as tie
 

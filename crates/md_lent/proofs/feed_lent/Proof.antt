@@ -1,7 +1,7 @@
 -- One character fed to the state that the numbers are. Assumes nothing.
 use mathlib.Core.Path.{ap, _∙_}
 use borrow.Author.Needs.{needs}
-use Rattle.md_lent.specs.Lent.{fedLent}
+use Rattle.md_lent_meaning.specs.Lent.{fedLent}
 use Rattle.md_lent.proofs.feed_lent.Statement.{statement}
 use Rattle.md_lent.proofs.feed_lent.Tie as tie
 

@@ -1,8 +1,8 @@
 -- Where nothing was fed the numbers stay but for one; else they are the state's. Assumes nothing.
 use mathlib.Core.Path.{_∙_}
 use borrow.Author.Needs.{needs}
-use Rattle.md_lent.specs.Lent.{lentReceived}
-use Rattle.md_lent.proofs.Laws.Lent.{next-same, next-fed}
+use Rattle.md_lent_meaning.specs.Lent.{lentReceived}
+use Rattle.md_lent_meaning.proofs.Laws.Lent.{next-same, next-fed}
 use Rattle.md_lent.proofs.next_lent.Statement.{statement}
 use Rattle.md_lent.proofs.next_lent.Tie as tie
 

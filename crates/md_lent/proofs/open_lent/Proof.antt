@@ -2,8 +2,8 @@
 use mathlib.Core.Path.{sym, _∙_}
 use borrow.Author.Needs.{needs}
 use Rattle.md_running_meaning.proofs.Laws.Opening.{opened-finite}
-use Rattle.md_lent.proofs.Laws.Bits.{finite-number}
-use Rattle.md_lent.proofs.Laws.Lent.{opened-none, opened-line}
+use Rattle.md_lent_meaning.proofs.Laws.Bits.{finite-number}
+use Rattle.md_lent_meaning.proofs.Laws.Lent.{opened-none, opened-line}
 use Rattle.md_lent.proofs.open_lent.Statement.{statement}
 use Rattle.md_lent.proofs.open_lent.Tie as tie
 

@@ -30,7 +30,7 @@ use Rattle.md_meaning.specs.declared.Scored.{Scored}
 use Rattle.md_meaning.specs.declared.Scored.the-variants.{Score as Told, Refused as Unscored}
 use Rattle.md_meaning.specs.Inner.Lent.{ofLent, badLent}
 use Rattle.md_meaning.specs.Values.{values}
-use Rattle.md_utf8.specs.ScoreUtf8.{messRatioUtf8}
+use Rattle.md_utf8_meaning.specs.ScoreUtf8.{messRatioUtf8}
 use Rattle.md_lines_meaning.specs.Lines.{linesOf}
 use Rattle.md_lines_meaning.specs.Burst.{NUMBERS-PER-LINE, LONGEST-BURST, numbers, rowNumbers, rows, rowOf, manyBytes, noRoom, causes, answer, outAfter}
 

@@ -30,8 +30,8 @@ use Rattle.md_meaning.specs.declared.Score.{Score}
 use Rattle.md_meaning.specs.declared.Scored.the-variants.{Score as Told}
 use Rattle.md_meaning.specs.DemandThree.{Certain}
 use Rattle.md_meaning.proofs.Laws.Plain.{Bounded}
-use Rattle.md_utf8.specs.ScoreUtf8.{messRatioUtf8}
-use Rattle.md_utf8.proofs.Laws.Accepted.{demand-three-utf8, utf8-at-most}
+use Rattle.md_utf8_meaning.specs.ScoreUtf8.{messRatioUtf8}
+use Rattle.md_utf8_meaning.proofs.Laws.Accepted.{demand-three-utf8, utf8-at-most}
 use Rattle.md_lines_meaning.specs.Lines.{linesOf}
 use Rattle.md_lines_meaning.specs.Burst.{NUMBERS-PER-LINE, LONGEST-BURST, rowNumbers, rows, rowOf, manyBytes, noRoom, causes, answer, outAfter}
 use Rattle.md_lines_meaning.proofs.Laws.Burst.{row-length, rows-more}

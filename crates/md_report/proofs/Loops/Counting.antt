@@ -9,12 +9,12 @@ use native.Mathlib.Omega.{arith}
 use lib.ListN.{length, getD, set, replicate}
 use borrow.Author.Tests.{eq-eqb, ne-eqb}
 use Rattle.base.specs.Refusals.{ACCEPTED}
-use Rattle.md_report.specs.Rows.{linesIn, word, numberAt, acceptedAt}
-use Rattle.md_report.specs.Bins.{BINS, LAST-BIN, OTHER, binAt, kindOf}
-use Rattle.md_report.specs.Report.{MOST-LINES}
-use Rattle.md_report.specs.Inner.Counts.{KINDS, Line, Place, tally, binsAfter, kindsAfter}
-use Rattle.md_report.proofs.Laws.Tally.{tally-length, tally-start, tally-few, tally-in, tally-out}
-use Rattle.md_report.proofs.Laws.Report.{bin-at-small, kind-small}
+use Rattle.md_report_meaning.specs.Rows.{linesIn, word, numberAt, acceptedAt}
+use Rattle.md_report_meaning.specs.Bins.{BINS, LAST-BIN, OTHER, binAt, kindOf}
+use Rattle.md_report_meaning.specs.Report.{MOST-LINES}
+use Rattle.md_report_meaning.specs.Inner.Counts.{KINDS, Line, Place, tally, binsAfter, kindsAfter}
+use Rattle.md_report_meaning.proofs.Laws.Tally.{tally-length, tally-start, tally-few, tally-in, tally-out}
+use Rattle.md_report_meaning.proofs.Laws.Report.{bin-at-small, kind-small}
 
 -- the counts are a tally's: there is room for one line more
 room : (p : ℕ → Bool) (g : ℕ → ℕ) (m i lines b : ℕ) (counts : List ℕ) → counts ≡ tally p g m i → i < lines → lines ≤ MOST-LINES → b < m

@@ -7,8 +7,8 @@ use native.Mathlib.Omega.{arith}
 use lib.ListN.{length, length-append}
 use Rattle.pieces.specs.Inner.Pieces.{Goes}
 use Rattle.pieces.proofs.Laws.Pieces.{goes-on, goes-as, goes-nothing, goes-length}
-use Rattle.md_report.specs.Text.{joined}
-use Rattle.md_report.proofs.Laws.Text.{joined-more, joined-part}
+use Rattle.md_report_meaning.specs.Text.{joined}
+use Rattle.md_report_meaning.proofs.Laws.Text.{joined-more, joined-part}
 
 pub record Writing (f : ℕ → List ℕ) (n : ℕ) (before after : List ℕ) (at next k : ℕ) : Type 0 where
   pub within : k ≤ n

@@ -4,7 +4,7 @@ use native.Mathlib.Nat.{zero-add}
 use native.Mathlib.Omega.{arith}
 use Rattle.base.specs.Put.{put}
 use Rattle.pieces.proofs.Laws.Pieces.{goes-first, goes-taken}
-use Rattle.md_report.proofs.Laws.Answer.{many-lines, no-room, written}
+use Rattle.md_report_meaning.proofs.Laws.Answer.{many-lines, no-room, written}
 use borrow.Author.Needs.{needs}
 use Rattle.md_report.proofs.report.Statement.{statement}
 use Rattle.md_report.proofs.report.Tie as tie

@@ -7,8 +7,8 @@ use lib.Ieee.{Float}
 use Rattle.utf8.specs.Text.{textOf}
 use Rattle.md_meaning.specs.declared.Score.{Score}
 use Rattle.md_meaning.specs.declared.Scored.the-variants.{Score as Told}
-use Rattle.md_utf8.specs.ScoreUtf8.{messRatioUtf8}
-use Rattle.md_utf8.proofs.Laws.Accepted.{utf8-scored}
+use Rattle.md_utf8_meaning.specs.ScoreUtf8.{messRatioUtf8}
+use Rattle.md_utf8_meaning.proofs.Laws.Accepted.{utf8-scored}
 use Rattle.md_thresholds.specs.Thresholds.{Higher, Compared}
 use Rattle.md_thresholds.proofs.Laws.Thresholds.{higher-compared}
 

@@ -4,7 +4,7 @@ use mathlib.Core.Path.{sym, _∙_}
 use Rattle.utf8.proofs.Laws.Answer.{readable}
 use Rattle.md_meaning.proofs.Laws.MessRatio.{ratio-lent}
 use Rattle.md_utf8.proofs.Laws.Lendable.{lendable}
-use Rattle.md_utf8.proofs.Laws.ScoreUtf8.{unread, read}
+use Rattle.md_utf8_meaning.proofs.Laws.ScoreUtf8.{unread, read}
 use borrow.Author.Needs.{needs}
 use Rattle.md_utf8.proofs.mess_ratio_utf8.Statement.{statement}
 use Rattle.md_utf8.proofs.mess_ratio_utf8.Tie as tie

@@ -1,6 +1,6 @@
 -- Scoring at the default threshold is scoring without one. Assumes nothing.
 use mathlib.Core.Path.{_∙_}
-use Rattle.md_utf8.proofs.Laws.ScoreUtf8.{default-same-utf8}
+use Rattle.md_utf8_meaning.proofs.Laws.ScoreUtf8.{default-same-utf8}
 use borrow.Author.Needs.{needs}
 use Rattle.md_utf8.proofs.mess_ratio_utf8_default.Statement.{statement}
 use Rattle.md_utf8.proofs.mess_ratio_utf8_default.Tie as tie

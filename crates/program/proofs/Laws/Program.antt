@@ -12,8 +12,8 @@ use Rattle.md_meaning.specs.declared.Scored.the-variants.{Score as Told}
 use Rattle.md_meaning.specs.Inner.Scan.{refused}
 use Rattle.md_meaning.proofs.Laws.Scan.{unless-allowed, unless-at, unless-score}
 use Rattle.md_meaning.specs.Inner.Plain.{PlainScore}
-use Rattle.md_utf8.specs.ScoreUtf8.{messRatioUtf8}
-use Rattle.md_utf8.proofs.Laws.ScoreUtf8.{utf8-plain}
+use Rattle.md_utf8_meaning.specs.ScoreUtf8.{messRatioUtf8}
+use Rattle.md_utf8_meaning.proofs.Laws.ScoreUtf8.{utf8-plain}
 use Rattle.program.specs.Program.{LONGEST-INPUT, THRESHOLD, NO-CLASSES, NO-PAIRS, manyBytes, answer}
 
 module _ (bytes : List ℕ) where

@@ -9,7 +9,7 @@ returns : tie.Need-returns
 returns c = c .unscored .ensures ∙ over _ (c .before .if1 .taken)
 
 returns-2 : tie.Need-returns-2
-returns-2 c = c .mess-ratio-utf8 .ensures ∙ rw (c .before .before .before .no-pairs .ensures) (within _ (c .before .before .before .before .if1 .left))
+returns-2 c = c .score-input .ensures ∙ within _ (c .before .if1 .left)
 
 pub answer-spec : {M : Type 1} → statement M
 answer-spec =
@@ -17,8 +17,5 @@ answer-spec =
     (tie.spec
     (λ c κs. search needs)
     returns
-    (λ c κs. search needs)
-    (λ c. search needs)
-    (λ c. search needs)
     (λ c κs. search needs)
     returns-2)

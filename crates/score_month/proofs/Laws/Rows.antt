@@ -13,7 +13,7 @@ use Rattle.md_meaning.specs.declared.Score.{Score}
 use Rattle.md_meaning.specs.declared.Scored.the-variants.{Score as Told, Refused as Unscored}
 use Rattle.md_meaning.specs.Values.{values}
 use Rattle.md_lines_meaning.specs.Burst.{NUMBERS-PER-LINE, numbers, rowNumbers}
-use Rattle.md_report.specs.Rows.{WORDS, numberAt, ratioAt, numeratorAt, denominatorAt}
+use Rattle.md_report_meaning.specs.Rows.{WORDS, numberAt, ratioAt, numeratorAt, denominatorAt}
 
 pub row-words : WORDS ≡ NUMBERS-PER-LINE
 row-words = refl

@@ -1,6 +1,6 @@
 -- A text that was written had room. Assumes nothing.
 use mathlib.Core.Path.{sym, _∙_}
-use Rattle.md_report.proofs.Laws.Answer.{count-fits}
+use Rattle.md_report_meaning.proofs.Laws.Answer.{count-fits}
 use borrow.Author.Needs.{needs}
 use Rattle.score_month.proofs.report_rows.Statement.{statement}
 use Rattle.score_month.proofs.report_rows.Tie as tie

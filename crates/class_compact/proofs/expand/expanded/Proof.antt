@@ -1,6 +1,6 @@
 -- The shared bytes and the letters are laid over zeros, each in its place. Assumes nothing.
 use Rattle.base.proofs.Laws.Tests.{within-lo}
-use Rattle.class_compact.proofs.Laws.Unpacked.{place-inside, expanded-with, expanded-without}
+use Rattle.class_compact_meaning.proofs.Laws.Unpacked.{place-inside, expanded-with, expanded-without}
 use borrow.Author.Needs.{needs}
 use denote.Ref.{now}
 use Rattle.class_compact.proofs.expand.expanded.Statement.{statement}

@@ -1,11 +1,11 @@
 -- The first i records stand at the front of the output, and the rest is as it was; the largest place so far is held beside them. Assumes nothing.
 use Prim.Native.Nat.{_-_}
 use Rattle.base.specs.Limits.{CLASS-RECORD}
-use Rattle.class_compact.proofs.Laws.Unpacked.{expansion-length}
+use Rattle.class_compact_meaning.proofs.Laws.Unpacked.{expansion-length}
 use Rattle.class_compact.proofs.Loops.InFirstUse.{Seen, seen-start, seen-more, seen-end}
 use Rattle.class_compact.proofs.Loops.Laying.{Laying, laying-start, laying-length, laying-room, laying-more, laying-end}
-use Rattle.class_compact.specs.Form.{compactRecords}
-use Rattle.class_compact.specs.Unpacked.{expansion, unpacked}
+use Rattle.class_compact_meaning.specs.Form.{compactRecords}
+use Rattle.class_compact_meaning.specs.Unpacked.{expansion, unpacked}
 use borrow.Author.Needs.{needs}
 use native.Mathlib.Omega.{arith}
 use Rattle.class_compact.proofs.expand.unpack_into.Statement.{statement}

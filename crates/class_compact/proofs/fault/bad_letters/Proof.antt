@@ -1,5 +1,5 @@
 -- The four tests, each in its words; letters that are not bad are used, so that their place has 16 bits. Assumes nothing.
-use Rattle.class_compact.proofs.Laws.Own.{told}
+use Rattle.class_compact_meaning.proofs.Laws.Own.{told}
 use borrow.Author.Needs.{needs}
 use mathlib.Core.Path.{refl}
 use Rattle.class_compact.proofs.fault.bad_letters.Statement.{statement}

@@ -1,5 +1,5 @@
 -- By the quick test. Assumes nothing.
-use Rattle.class_compact.proofs.Laws.Calls.{beyond-sound, beyond-fault}
+use Rattle.class_compact_meaning.proofs.Laws.Calls.{beyond-sound, beyond-fault}
 use mathlib.Core.Path.{sym, _∙_}
 use Rattle.class_compact.proofs.fault.beyond_table.Statement.{statement}
 use Rattle.class_compact.proofs.fault.beyond_table.Tie as tie

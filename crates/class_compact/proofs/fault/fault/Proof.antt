@@ -1,5 +1,5 @@
 -- Each return is one of the causes, in their order. Assumes nothing.
-use Rattle.class_compact.proofs.Laws.Calls.{fault-record, fault-ragged, fault-letters, fault-none}
+use Rattle.class_compact_meaning.proofs.Laws.Calls.{fault-record, fault-ragged, fault-letters, fault-none}
 use borrow.Author.Needs.{needs}
 use mathlib.Core.Path.{_∙_}
 use native.Mathlib.Omega.{arith}

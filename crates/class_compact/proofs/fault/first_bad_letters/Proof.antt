@@ -1,9 +1,9 @@
 -- No letters before k are bad, and k has 16 bits since those before it are used. Assumes nothing.
 use Prim.Native.Nat.{_-_, _<_}
 use Rattle.class_compact.proofs.Loops.Seeking.{Seeking, seeking-start, seeking-hit, seeking-more, seeking-end}
-use Rattle.class_compact.specs.Check.{badLetters, firstBadLetters}
-use Rattle.class_compact.specs.Form.{lettersIn}
-use Rattle.class_compact.specs.Inner.Form.{HALF}
+use Rattle.class_compact_meaning.specs.Check.{badLetters, firstBadLetters}
+use Rattle.class_compact_meaning.specs.Form.{lettersIn}
+use Rattle.class_compact_meaning.specs.Inner.Form.{HALF}
 use borrow.Author.Needs.{needs}
 use mathlib.Core.Path.{sym, _∙_}
 use native.Mathlib.Omega.{arith}

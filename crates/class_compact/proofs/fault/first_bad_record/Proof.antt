@@ -1,5 +1,5 @@
 -- The lesser of two firsts is the first of either. Assumes nothing.
-use Rattle.class_compact.proofs.Laws.Records.{lacking-first, bad-first}
+use Rattle.class_compact_meaning.proofs.Laws.Records.{lacking-first, bad-first}
 use borrow.Author.Needs.{needs}
 use Rattle.class_compact.proofs.fault.first_bad_record.Statement.{statement}
 use Rattle.class_compact.proofs.fault.first_bad_record.Tie as tie

@@ -1,8 +1,8 @@
 -- The letters of no record before i are missing. Assumes nothing.
 use Prim.Native.Nat.{_-_}
 use Rattle.class_compact.proofs.Loops.Seeking.{Seeking, seeking-start, seeking-hit, seeking-more, seeking-end}
-use Rattle.class_compact.specs.Check.{missing}
-use Rattle.class_compact.specs.Inner.Sound.{firstMissing}
+use Rattle.class_compact_meaning.specs.Check.{missing}
+use Rattle.class_compact_meaning.specs.Inner.Sound.{firstMissing}
 use borrow.Author.Needs.{needs}
 use borrow.Author.Tests.{lt-ltb, le-ltb}
 use native.Mathlib.Omega.{arith}

@@ -1,8 +1,8 @@
 -- No record before i uses the place; and where one does, it has 16 bits as every place has. Assumes nothing.
 use Prim.Native.Nat.{ℕ, _-_, _<_}
 use Rattle.class_compact.proofs.Loops.Seeking.{Seeking, seeking-start, seeking-hit, seeking-more, seeking-end}
-use Rattle.class_compact.specs.Check.{firstUse}
-use Rattle.class_compact.specs.Form.{placeAt}
+use Rattle.class_compact_meaning.specs.Check.{firstUse}
+use Rattle.class_compact_meaning.specs.Form.{placeAt}
 use borrow.Author.Needs.{needs}
 use borrow.Author.Tests.{eq-eqb, ne-eqb}
 use lib.Dec.{eqb}

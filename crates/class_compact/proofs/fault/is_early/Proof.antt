@@ -1,5 +1,5 @@
 -- By whether there is a predecessor. Assumes nothing.
-use Rattle.class_compact.proofs.Laws.Own.{early-first, early-later}
+use Rattle.class_compact_meaning.proofs.Laws.Own.{early-first, early-later}
 use borrow.Author.Needs.{needs}
 use Rattle.class_compact.proofs.fault.is_early.Statement.{statement}
 use Rattle.class_compact.proofs.fault.is_early.Tie as tie

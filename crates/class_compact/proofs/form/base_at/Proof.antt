@@ -1,5 +1,5 @@
 -- A word of the letters' record. Assumes nothing.
-use Rattle.class_compact.specs.Form.{baseAt}
+use Rattle.class_compact_meaning.specs.Form.{baseAt}
 use borrow.Author.Needs.{needs}
 use Rattle.class_compact.proofs.form.base_at.Statement.{statement}
 use Rattle.class_compact.proofs.form.base_at.Tie as tie

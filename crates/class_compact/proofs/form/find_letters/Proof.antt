@@ -1,7 +1,7 @@
 -- No letters before k are these. Assumes nothing.
 use Prim.Native.Nat.{_-_}
 use Rattle.class_compact.proofs.Loops.Seeking.{Seeking, seeking-start, seeking-hit, seeking-more, seeking-end}
-use Rattle.class_compact.specs.Check.{lettersAre}
+use Rattle.class_compact_meaning.specs.Check.{lettersAre}
 use borrow.Author.Needs.{needs}
 use native.Mathlib.Omega.{arith}
 use Rattle.class_compact.proofs.form.find_letters.Statement.{statement}

@@ -1,6 +1,6 @@
 -- The place is the high half of the word of range and place, and a half has 16 bits. Assumes nothing.
 use Prim.Native.Nat.{ℕ, _+_, _*_}
-use Rattle.class_compact.specs.Form.{COMPACT-RECORD, placeAt}
+use Rattle.class_compact_meaning.specs.Form.{COMPACT-RECORD, placeAt}
 use borrow.Author.Needs.{needs}
 use mathlib.Core.Path.{_≡_}
 use native.Mathlib.Omega.{arith}

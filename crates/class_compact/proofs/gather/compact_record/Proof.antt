@@ -1,5 +1,5 @@
 -- The shared bytes are laid over zeros, and the place behind them, lowest byte first. Assumes nothing.
-use Rattle.class_compact.proofs.Laws.Packed.{compact-made}
+use Rattle.class_compact_meaning.proofs.Laws.Packed.{compact-made}
 use borrow.Author.Needs.{needs}
 use Rattle.class_compact.proofs.gather.compact_record.Statement.{statement}
 use Rattle.class_compact.proofs.gather.compact_record.Tie as tie

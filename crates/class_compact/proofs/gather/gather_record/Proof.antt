@@ -1,6 +1,6 @@
 -- The record is laid behind the others, and its letters where their place is past all. Assumes nothing.
-use Rattle.class_compact.proofs.Laws.Among.{among-few, gathered-old, gathered-new}
-use Rattle.class_compact.proofs.Laws.Packed.{compacted-length}
+use Rattle.class_compact_meaning.proofs.Laws.Among.{among-few, gathered-old, gathered-new}
+use Rattle.class_compact_meaning.proofs.Laws.Packed.{compacted-length}
 use borrow.Author.Needs.{needs}
 use lib.ListN.{length-take}
 use native.Mathlib.Omega.{arith}

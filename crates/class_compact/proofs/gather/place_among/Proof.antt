@@ -1,6 +1,6 @@
 -- What is noted has its place, and what is not comes behind all that are. Assumes nothing.
-use Rattle.class_compact.proofs.Laws.Among.{among-none, among-few, among-linked, among-old, among-new}
-use Rattle.class_compact.specs.Packed.{plain}
+use Rattle.class_compact_meaning.proofs.Laws.Among.{among-none, among-few, among-linked, among-old, among-new}
+use Rattle.class_compact_meaning.specs.Packed.{plain}
 use native.Mathlib.Omega.{arith}
 use Rattle.class_compact.proofs.gather.place_among.Statement.{statement}
 use Rattle.class_compact.proofs.gather.place_among.Tie as tie

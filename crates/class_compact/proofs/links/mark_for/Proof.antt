@@ -1,5 +1,5 @@
 -- The same number, and a remainder is below what is divided by. Assumes nothing.
-use Rattle.class_compact.specs.Inner.Links.{markOf}
+use Rattle.class_compact_meaning.specs.Inner.Links.{markOf}
 use borrow.Author.Needs.{needs}
 use mathlib.Core.Path.{refl}
 use native.Mathlib.Omega.{arith}

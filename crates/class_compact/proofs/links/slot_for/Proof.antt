@@ -1,8 +1,8 @@
 -- The walk passes other letters, and each place that it meets lies behind the slot where it stands, so that it ends. Assumes nothing.
 use Prim.Native.Nat.{_-_}
 use Rattle.class_compact.proofs.Loops.Walking.{Walking, walking-start, walking-inside, walking-rises, walking-more, walking-none, walking-some}
-use Rattle.class_compact.specs.Check.{lettersAre}
-use Rattle.class_compact.specs.Inner.Links.{LINKS, bitsOf}
+use Rattle.class_compact_meaning.specs.Check.{lettersAre}
+use Rattle.class_compact_meaning.specs.Inner.Links.{LINKS, bitsOf}
 use borrow.Author.Needs.{needs}
 use mathlib.Core.Path.{refl}
 use native.Mathlib.Omega.{arith}

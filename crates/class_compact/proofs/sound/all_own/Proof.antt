@@ -1,6 +1,6 @@
 -- The letters before k are their own and noted. Assumes nothing.
 use Prim.Native.Nat.{_-_}
-use Rattle.class_compact.proofs.Laws.Own.{Owning, owning-start, owning-more, owning-end, owning-fails}
+use Rattle.class_compact_meaning.proofs.Laws.Own.{Owning, owning-start, owning-more, owning-end, owning-fails}
 use borrow.Author.Needs.{needs}
 use borrow.Author.Tests.{not-true, not-false}
 use mathlib.Core.Path.{sym, _∙_}

@@ -1,6 +1,6 @@
 -- Letters that have a place before theirs are a repeat; others are noted. Assumes nothing.
-use Rattle.class_compact.proofs.Laws.Firsts.{clash}
-use Rattle.class_compact.proofs.Laws.Own.{own-none, own-again, own-free, own-linked}
+use Rattle.class_compact_meaning.proofs.Laws.Firsts.{clash}
+use Rattle.class_compact_meaning.proofs.Laws.Own.{own-none, own-again, own-free, own-linked}
 use borrow.Author.Needs.{needs}
 use mathlib.Core.Path.{refl}
 use native.Mathlib.Omega.{arith}

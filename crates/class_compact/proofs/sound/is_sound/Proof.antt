@@ -1,6 +1,6 @@
 -- Each return is one part of the quick test; letters that are used in their order are not more than the records. Assumes nothing.
-use Rattle.class_compact.proofs.Laws.Calls.{sound-ragged, sound-mixed, sound-rest}
-use Rattle.class_compact.proofs.Laws.FirstUse.{use-few}
+use Rattle.class_compact_meaning.proofs.Laws.Calls.{sound-ragged, sound-mixed, sound-rest}
+use Rattle.class_compact_meaning.proofs.Laws.FirstUse.{use-few}
 use borrow.Author.Tests.{not-true, not-false}
 use mathlib.Core.Path.{sym, _∙_}
 use native.Mathlib.Omega.{arith}

@@ -1,6 +1,6 @@
 -- The definition's record. Assumes nothing.
 use mathlib.Core.Path.{refl}
-use Rattle.md_lent.specs.Lent.{eightLent}
+use Rattle.md_lent_meaning.specs.Lent.{eightLent}
 use Rattle.md_lent.proofs.numbers.eight_of.Statement.{statement}
 use Rattle.md_lent.proofs.numbers.eight_of.Tie as tie
 

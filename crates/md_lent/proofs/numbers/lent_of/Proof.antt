@@ -1,6 +1,6 @@
 -- The definition's record, each mark being 1 or 0. Assumes nothing.
 use borrow.Author.Needs.{needs}
-use Rattle.md_lent.specs.Lent.{lentOf}
+use Rattle.md_lent_meaning.specs.Lent.{lentOf}
 use Rattle.md_lent.proofs.numbers.lent_of.Statement.{statement}
 use Rattle.md_lent.proofs.numbers.lent_of.Tie as tie
 

@@ -1,6 +1,6 @@
 -- Zeros. Assumes nothing.
 use mathlib.Core.Path.{refl}
-use Rattle.md_lent.specs.Inner.Lent.{noLent}
+use Rattle.md_lent_meaning.specs.Inner.Lent.{noLent}
 use Rattle.md_lent.proofs.numbers.no_lent.Statement.{statement}
 use Rattle.md_lent.proofs.numbers.no_lent.Tie as tie
 

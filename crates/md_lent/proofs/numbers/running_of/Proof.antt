@@ -1,6 +1,6 @@
 -- The definition's record, its parts by their contracts. Assumes nothing.
 use borrow.Author.Needs.{needs}
-use Rattle.md_lent.specs.Lent.{runningOf}
+use Rattle.md_lent_meaning.specs.Lent.{runningOf}
 use Rattle.md_lent.proofs.numbers.running_of.Statement.{statement}
 use Rattle.md_lent.proofs.numbers.running_of.Tie as tie
 

@@ -1,6 +1,6 @@
 -- Bits that are no NaN's make the float that they are; and the difference of two infinities is the NaN. Assumes nothing.
 use borrow.Author.Needs.{needs}
-use Rattle.md_lent.proofs.Laws.Bits.{nan-bits, number-bits, infinity-bits}
+use Rattle.md_lent_meaning.proofs.Laws.Bits.{nan-bits, number-bits, infinity-bits}
 use Rattle.md_lent.proofs.numbers.threshold_of.Statement.{statement}
 use Rattle.md_lent.proofs.numbers.threshold_of.Tie as tie
 

@@ -1,6 +1,6 @@
 -- What is put is the row of the line's score. Assumes nothing.
 use mathlib.Core.Path.{sym, _∙_}
-use Rattle.md_utf8.proofs.Laws.ScoreUtf8.{utf8-plain}
+use Rattle.md_utf8_meaning.proofs.Laws.ScoreUtf8.{utf8-plain}
 use borrow.Author.Needs.{needs}
 use Rattle.md_lines.proofs.rows.put_line.Statement.{statement}
 use Rattle.md_lines.proofs.rows.put_line.Tie as tie

@@ -2,7 +2,7 @@
 use mathlib.Core.Path.{sym, _∙_}
 use native.Mathlib.Omega.{arith}
 use Rattle.utf8.proofs.Laws.Answer.{readable}
-use Rattle.md_utf8.proofs.Laws.ScoreUtf8.{unread, read}
+use Rattle.md_utf8_meaning.proofs.Laws.ScoreUtf8.{unread, read}
 use borrow.Author.Needs.{needs}
 use Rattle.md_lines.proofs.rows.score_line.Statement.{statement}
 use Rattle.md_lines.proofs.rows.score_line.Tie as tie

@@ -1,6 +1,6 @@
 -- The three words are the line's ratio, numerator and denominator. Assumes nothing.
-use Rattle.md_report.specs.Rows.{ratioAt, numeratorAt, denominatorAt}
-use Rattle.md_report.specs.Bins.{binAt}
+use Rattle.md_report_meaning.specs.Rows.{ratioAt, numeratorAt, denominatorAt}
+use Rattle.md_report_meaning.specs.Bins.{binAt}
 use borrow.Author.Needs.{needs}
 use Rattle.md_report.proofs.count.bin_at.Statement.{statement}
 use Rattle.md_report.proofs.count.bin_at.Tie as tie

@@ -2,7 +2,7 @@
 use mathlib.Core.Path.{_∙_, sym}
 use native.Mathlib.Omega.{arith}
 use borrow.Author.Tests.{eq-eqb, ne-eqb, lt-ltb, le-ltb}
-use Rattle.md_report.specs.Bins.{parts, binOf}
+use Rattle.md_report_meaning.specs.Bins.{parts, binOf}
 use borrow.Author.Needs.{needs}
 use Rattle.md_report.proofs.count.bin_of.Statement.{statement}
 use Rattle.md_report.proofs.count.bin_of.Tie as tie

@@ -2,9 +2,9 @@
 use Prim.Native.Nat.{_-_, _≤_}
 use mathlib.Core.Path.{_≡_}
 use native.Mathlib.Omega.{arith}
-use Rattle.md_report.specs.Inner.Counts.{binsAfter}
+use Rattle.md_report_meaning.specs.Inner.Counts.{binsAfter}
 use lib.ListN.{length}
-use Rattle.md_report.specs.Bins.{BINS}
+use Rattle.md_report_meaning.specs.Bins.{BINS}
 use Rattle.md_report.proofs.Loops.Counting.{bins-start, bins-long, bins-end}
 use borrow.Author.Needs.{needs}
 use Rattle.md_report.proofs.count.bins_of.Statement.{statement}

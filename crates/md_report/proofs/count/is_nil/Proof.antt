@@ -1,5 +1,5 @@
 -- The two tests are the definition's two. Assumes nothing.
-use Rattle.md_report.specs.Bins.{zeroBits}
+use Rattle.md_report_meaning.specs.Bins.{zeroBits}
 use borrow.Author.Needs.{needs}
 use Rattle.md_report.proofs.count.is_nil.Statement.{statement}
 use Rattle.md_report.proofs.count.is_nil.Tie as tie

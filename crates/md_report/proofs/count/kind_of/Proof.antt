@@ -1,7 +1,7 @@
 -- Its two ways are the definition's two. Assumes nothing.
 use native.Mathlib.Omega.{arith}
 use borrow.Author.Tests.{lt-ltb, le-ltb}
-use Rattle.md_report.specs.Bins.{kindOf}
+use Rattle.md_report_meaning.specs.Bins.{kindOf}
 use borrow.Author.Needs.{needs}
 use Rattle.md_report.proofs.count.kind_of.Statement.{statement}
 use Rattle.md_report.proofs.count.kind_of.Tie as tie

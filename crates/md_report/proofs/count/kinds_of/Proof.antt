@@ -3,7 +3,7 @@ use Prim.Native.Nat.{_-_, _≤_}
 use mathlib.Core.Path.{_≡_}
 use native.Mathlib.Omega.{arith}
 use lib.ListN.{length}
-use Rattle.md_report.specs.Inner.Counts.{KINDS, kindsAfter}
+use Rattle.md_report_meaning.specs.Inner.Counts.{KINDS, kindsAfter}
 use Rattle.md_report.proofs.Loops.Counting.{kinds-start, kinds-long, kinds-end}
 use borrow.Author.Needs.{needs}
 use Rattle.md_report.proofs.count.kinds_of.Statement.{statement}

@@ -1,6 +1,6 @@
 -- The definition, word by word. Assumes nothing.
 use mathlib.Core.Path.{refl}
-use Rattle.md_report.specs.Rows.{linesIn}
+use Rattle.md_report_meaning.specs.Rows.{linesIn}
 use borrow.Author.Needs.{needs}
 use Rattle.md_report.proofs.count.lines_in.Statement.{statement}
 use Rattle.md_report.proofs.count.lines_in.Tie as tie

@@ -3,9 +3,9 @@ use Prim.Native.Nat.{_-_, _+_, _≤_, _*_}
 use mathlib.Core.Path.{_≡_}
 use native.Mathlib.Omega.{arith}
 use lib.ListN.{getD}
-use Rattle.md_report.specs.Bins.{sumTo, OTHER}
-use Rattle.md_report.specs.Report.{MOST-LINES}
-use Rattle.md_report.proofs.Laws.Sums.{sum-start, sum-more, sum-end, sum-few}
+use Rattle.md_report_meaning.specs.Bins.{sumTo, OTHER}
+use Rattle.md_report_meaning.specs.Report.{MOST-LINES}
+use Rattle.md_report_meaning.proofs.Laws.Sums.{sum-start, sum-more, sum-end, sum-few}
 use borrow.Author.Needs.{needs}
 use Rattle.md_report.proofs.count.refused_in.Statement.{statement}
 use Rattle.md_report.proofs.count.refused_in.Tie as tie

@@ -1,6 +1,6 @@
 -- The row is whole, so that each of its words is there. Assumes nothing.
 use native.Mathlib.Omega.{arith}
-use Rattle.md_report.specs.Rows.{linesIn}
+use Rattle.md_report_meaning.specs.Rows.{linesIn}
 use borrow.Author.Needs.{needs}
 use Rattle.md_report.proofs.count.word_of.Statement.{statement}
 use Rattle.md_report.proofs.count.word_of.Tie as tie

@@ -1,7 +1,7 @@
 -- An empty bin puts nothing; else each piece goes behind the one before it, and together they are the line. Assumes nothing.
 use Rattle.pieces.proofs.Laws.Pieces.{goes-on, goes-as, goes-nothing}
 use native.Mathlib.Omega.{arith}
-use Rattle.md_report.proofs.Laws.Text.{bin-pieces, bin-empty}
+use Rattle.md_report_meaning.proofs.Laws.Text.{bin-pieces, bin-empty}
 use borrow.Author.Needs.{needs}
 use Rattle.md_report.proofs.text.put_bin.Statement.{statement}
 use Rattle.md_report.proofs.text.put_bin.Tie as tie

@@ -2,9 +2,9 @@
 use Prim.Native.Nat.{_-_}
 use native.Mathlib.Omega.{arith}
 use lib.ListN.{getD}
-use Rattle.md_report.specs.Bins.{BINS}
-use Rattle.md_report.specs.Text.{binLine}
-use Rattle.md_report.specs.Inner.Written.{binLines}
+use Rattle.md_report_meaning.specs.Bins.{BINS}
+use Rattle.md_report_meaning.specs.Text.{binLine}
+use Rattle.md_report_meaning.specs.Inner.Written.{binLines}
 use Rattle.md_report.proofs.Loops.Writing.{Writing, writing-start, writing-more, writing-end, writing-near, writing-length}
 use borrow.Author.Needs.{needs}
 use Rattle.md_report.proofs.text.put_bins.Statement.{statement}

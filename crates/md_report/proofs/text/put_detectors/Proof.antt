@@ -5,9 +5,9 @@ use native.Mathlib.Omega.{arith}
 use lib.ListN.{length}
 use Rattle.pieces.proofs.Laws.Pieces.{goes-as}
 use Rattle.ratio.specs.Eight.{DETECTORS}
-use Rattle.md_report.specs.Text.{detectorText}
+use Rattle.md_report_meaning.specs.Text.{detectorText}
 use Rattle.md_report.proofs.Loops.Writing.{Writing, writing-start, writing-more, writing-end, writing-room, writing-length}
-use Rattle.md_report.proofs.Laws.Text.{counts-text}
+use Rattle.md_report_meaning.proofs.Laws.Text.{counts-text}
 use borrow.Author.Needs.{needs}
 use Rattle.md_report.proofs.text.put_detectors.Statement.{statement}
 use Rattle.md_report.proofs.text.put_detectors.Tie as tie

@@ -1,7 +1,7 @@
 -- The end of the line goes behind the number. Assumes nothing.
 use Rattle.pieces.proofs.Laws.Pieces.{goes-on, goes-as}
 use native.Mathlib.Omega.{arith}
-use Rattle.md_report.proofs.Laws.Text.{total-pieces}
+use Rattle.md_report_meaning.proofs.Laws.Text.{total-pieces}
 use borrow.Author.Needs.{needs}
 use Rattle.md_report.proofs.text.put_total.Statement.{statement}
 use Rattle.md_report.proofs.text.put_total.Tie as tie

@@ -1,6 +1,6 @@
 -- Each total goes behind the one before it. Assumes nothing.
 use Rattle.pieces.proofs.Laws.Pieces.{goes-on}
-use Rattle.md_report.specs.Inner.Written.{totals}
+use Rattle.md_report_meaning.specs.Inner.Written.{totals}
 use borrow.Author.Needs.{needs}
 use Rattle.md_report.proofs.text.put_totals.Statement.{statement}
 use Rattle.md_report.proofs.text.put_totals.Tie as tie

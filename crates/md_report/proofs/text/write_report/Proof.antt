@@ -1,8 +1,8 @@
 -- The totals go behind the detectors, whose text leaves room for them. Assumes nothing.
 use native.Mathlib.Omega.{arith}
 use Rattle.pieces.proofs.Laws.Pieces.{goes-on, goes-as, goes-length}
-use Rattle.md_report.proofs.Laws.Text.{kinds-few, report-whole}
-use Rattle.md_report.proofs.Laws.Longest.{detectors-fit}
+use Rattle.md_report_meaning.proofs.Laws.Text.{kinds-few, report-whole}
+use Rattle.md_report_meaning.proofs.Laws.Longest.{detectors-fit}
 use borrow.Author.Needs.{needs}
 use Rattle.md_report.proofs.text.write_report.Statement.{statement}
 use Rattle.md_report.proofs.text.write_report.Tie as tie

@@ -1,7 +1,7 @@
 -- The room is filled with the text, and its first n places are the text again. Assumes nothing.
 use native.Mathlib.Omega.{arith}
 use lib.ListN.{length-take}
-use Rattle.md_utf8.proofs.Laws.ScoreUtf8.{text-back}
+use Rattle.md_utf8_meaning.proofs.Laws.ScoreUtf8.{text-back}
 use Rattle.md_utf8.proofs.Laws.Lendable.{lendable-ready, lendable-scan}
 use borrow.Author.Needs.{needs}
 use Rattle.md_utf8.proofs.rooms.through.Statement.{statement}

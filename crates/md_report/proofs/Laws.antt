@@ -1,6 +1,0 @@
-pub mod Tally
-pub mod Sums
-pub mod Report
-pub mod Text
-pub mod Longest
-pub mod Answer
