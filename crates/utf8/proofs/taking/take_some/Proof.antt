@@ -4,6 +4,9 @@ use Rattle.utf8.proofs.Loops.Taking.{took-on}
 use Rattle.utf8.proofs.taking.take_some.Statement.{statement}
 use Rattle.utf8.proofs.taking.take_some.Tie as tie
 
+take-two-requires : tie.Need-take-two-requires
+take-two-requires c κs = search needs
+
 returns-2 : tie.Need-returns-2
 returns-2 c =
     let at-take-pairs = c .before .before in
@@ -23,7 +26,7 @@ take-some-spec =
     (λ c κs. search needs)
     (λ c. search needs)
     (λ c. search needs)
-    (λ c κs. search needs)
+    take-two-requires
     (λ c κs. search needs)
     (λ c. search needs)
     returns-2
