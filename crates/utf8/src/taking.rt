@@ -1,5 +1,6 @@
 // UTF-8 read in one pass, into a room of the caller's own with a place for each byte: what stands there after a fault is of no account, so that nothing has to be checked
-// before it is written. Sequences of one length in a row are taken by a loop of their own, which tests no other length.
+// before it is written. Sequences of one length in a row are taken by a loop of their own. Where words end no processor foresees, so that sequences of two and three that have stood together go on in a loop whose
+// turn takes an ASCII byte among them without a branch: it is written where it would stand, and counted or not.
 use crate::Measured;
 use crate::ascii::past_ascii;
 use crate::ascii::widen;
@@ -20,7 +21,21 @@ ghost use Rattle.base.specs.Limits.{LONGEST-TEXT};
 ghost use Rattle.utf8_table.specs.WellFormed.{byteAt};
 ghost use Rattle.utf8.specs.Text.{textOf};
 ghost use Rattle.utf8.specs.Inner.Answer.{measured, countUtf8};
-ghost use Rattle.utf8.specs.Inner.Taking.{Room, Took};
+ghost use Rattle.utf8.specs.Inner.Taking.{NO-ASCII, LEADS-THREE, LEADS-FOUR, PAIR, SPACED, Room, Behind, Taken, Took, Beyond, IfTwo, IfOneOrTwo};
+
+// The first byte that is no ASCII, the first that leads two, the first that leads three and the first that leads four bytes.
+const NO_ASCII: u8 = 0x80;
+
+const LEADS_TWO: u8 = 0xC2;
+
+const LEADS_THREE: u8 = 0xE0;
+
+const LEADS_FOUR: u8 = 0xF0;
+
+// Bytes that a turn of two looks at, and of three.
+const PAIR: usize = 5;
+
+const SPACED: usize = 4;
 
 // How far the bytes are taken, and the places of the room.
 pub struct Reached {
@@ -30,7 +45,7 @@ pub struct Reached {
 
 // The ASCII bytes from one on.
 fn take_ascii(bytes: &[u8], from: usize, out: &mut [u32], to: usize) -> Reached
-    requires { ⌜ Room (now bytes) (now out) from to × (byteAt (now bytes) from < 0x80) ⌝ }
+    requires { ⌜ Room (now bytes) (now out) from to × (byteAt (now bytes) from < NO-ASCII) ⌝ }
     ensures { λ r. ⌜ Took (now (bytes .entry)) (now (out .entry)) (now (out .exit)) from to (r .from) (r .to) ⌝ }
 {
     out[to] = wide(bytes[from]);
@@ -43,30 +58,91 @@ fn take_ascii(bytes: &[u8], from: usize, out: &mut [u32], to: usize) -> Reached
     }
 }
 
-// The sequences of two bytes from a byte 80 to DF on.
-fn take_twos(bytes: &[u8], from: usize, out: &mut [u32], to: usize) -> Reached
-    requires { ⌜ Room (now bytes) (now out) from to × (0x80 ≤ byteAt (now bytes) from) × (byteAt (now bytes) from < 0xE0) ⌝ }
+// The sequence of two bytes at a byte 80 to DF.
+fn take_two(bytes: &[u8], from: usize, out: &mut [u32], to: usize) -> Reached
+    requires { ⌜ Room (now bytes) (now out) from to × (NO-ASCII ≤ byteAt (now bytes) from) × (byteAt (now bytes) from < LEADS-THREE) ⌝ }
     ensures { λ r. ⌜ Took (now (bytes .entry)) (now (out .entry)) (now (out .exit)) from to (r .from) (r .to) ⌝ }
+{
+    if !is_two(bytes, from) {
+        return Reached { from: from, to: to };
+    }
+    out[to] = two_at(bytes, from);
+    Reached {
+        from: from + 2,
+        to: to + 1,
+    }
+}
+
+// 1 where the byte at i is no ASCII, else 0.
+fn beyond_ascii(b: &[u8], i: usize) -> usize
+    requires { ⌜ i < length (now b) ⌝ }
+    ensures { λ r. ⌜ Beyond (byteAt (now (b .entry)) i) r ⌝ }
+{
+    (wide(b[i]) / 128) as usize
+}
+
+// Whether a sequence of two stands at i.
+fn two_stands(b: &[u8], i: usize) -> bool
+    requires { ⌜ i + 2 ≤ length (now b) ⌝ }
+    ensures { λ r. ⌜ IfTwo r (now (b .entry)) i ⌝ }
+{
+    (LEADS_TWO <= b[i]) & (b[i] < LEADS_THREE) & (b[i + 1] / 64 == 2)
+}
+
+// Whether an ASCII byte or a sequence of two stands at i. What the second byte is held to hangs on the first by a sum, not by a branch.
+fn one_or_two_stands(b: &[u8], i: usize) -> bool
+    requires { ⌜ i + 2 ≤ length (now b) ⌝ }
+    ensures { λ r. ⌜ IfOneOrTwo r (now (b .entry)) i ⌝ }
+{
+    let more = beyond_ascii(b, i);
+    let next = (wide(b[i + 1]) / 64) as usize;
+    ((b[i] < NO_ASCII) | (LEADS_TWO <= b[i]))
+        & (b[i] < LEADS_THREE)
+        & (2 * more <= next)
+        & (next + more <= 3)
+}
+
+// A sequence of two and what stands behind it: an ASCII byte, or another sequence of two with or without an ASCII byte behind it. All three are written, and those that stand there are counted.
+fn take_pair(bytes: &[u8], from: usize, out: &mut [u32], to: usize) -> Reached
+    requires { ⌜ Room (now bytes) (now out) from to × (from + PAIR ≤ length (now bytes)) ⌝ }
+    ensures { λ r. ⌜ Taken (now (bytes .entry)) (now (out .entry)) (now (out .exit)) from to (r .from) (r .to) ⌝ }
+{
+    let stand = two_stands(bytes, from) & one_or_two_stands(bytes, from + 2);
+    if !stand {
+        return Reached { from: from, to: to };
+    }
+    let again = beyond_ascii(bytes, from + 2);
+    let more = (again + 1 - beyond_ascii(bytes, from + 4)) / 2;
+    out[to] = two_at(bytes, from);
+    out[to + 1] = two_at(bytes, from + 2);
+    out[to + 1 + again] = wide(bytes[from + 2 + 2 * again]);
+    Reached {
+        from: from + 3 + again + more,
+        to: to + 2 + more,
+    }
+}
+
+// Sequences of two, with single ASCII bytes among them, as long as they stand in pairs.
+fn take_pairs(bytes: &[u8], from: usize, out: &mut [u32], to: usize) -> Reached
+    requires { ⌜ Behind (now bytes) (now out) from to ⌝ }
+    ensures { λ r. ⌜ Taken (now (bytes .entry)) (now (out .entry)) (now (out .exit)) from to (r .from) (r .to) ⌝ }
 {
     let mut i = from;
     let mut n = to;
-    while i < bytes.len() {
-        if 0xE0 <= bytes[i] {
-            return Reached { from: i, to: n };
+    while PAIR <= bytes.len() - i {
+        let r = take_pair(bytes, i, out, n);
+        if r.from == i {
+            return r;
         }
-        if !is_two(bytes, i) {
-            return Reached { from: i, to: n };
-        }
-        out[n] = two_at(bytes, i);
-        i += 2;
-        n += 1;
+        i = r.from;
+        n = r.to;
     }
     Reached { from: i, to: n }
 }
 
 // The sequences of three bytes from a byte E0 to EF on.
 fn take_threes(bytes: &[u8], from: usize, out: &mut [u32], to: usize) -> Reached
-    requires { ⌜ Room (now bytes) (now out) from to × (0xE0 ≤ byteAt (now bytes) from) × (byteAt (now bytes) from < 0xF0) ⌝ }
+    requires { ⌜ Room (now bytes) (now out) from to × (LEADS-THREE ≤ byteAt (now bytes) from) × (byteAt (now bytes) from < LEADS-FOUR) ⌝ }
     ensures { λ r. ⌜ Took (now (bytes .entry)) (now (out .entry)) (now (out .exit)) from to (r .from) (r .to) ⌝ }
 {
     let mut i = from;
@@ -85,9 +161,48 @@ fn take_threes(bytes: &[u8], from: usize, out: &mut [u32], to: usize) -> Reached
     Reached { from: i, to: n }
 }
 
+// A sequence of three, with or without an ASCII byte before it. Both are written, the sequence over the ASCII byte where none is.
+fn take_spaced(bytes: &[u8], from: usize, out: &mut [u32], to: usize) -> Reached
+    requires { ⌜ Room (now bytes) (now out) from to × (from + SPACED ≤ length (now bytes)) ⌝ }
+    ensures { λ r. ⌜ Taken (now (bytes .entry)) (now (out .entry)) (now (out .exit)) from to (r .from) (r .to) ⌝ }
+{
+    let more = 1 - beyond_ascii(bytes, from);
+    let at = from + more;
+    if bytes[at] / 16 != 0xE {
+        return Reached { from: from, to: to };
+    }
+    if !is_three(bytes, at) {
+        return Reached { from: from, to: to };
+    }
+    out[to] = wide(bytes[from]);
+    out[to + more] = three_at(bytes, at);
+    Reached {
+        from: at + 3,
+        to: to + more + 1,
+    }
+}
+
+// Sequences of three, with single ASCII bytes among them.
+fn take_all_spaced(bytes: &[u8], from: usize, out: &mut [u32], to: usize) -> Reached
+    requires { ⌜ Behind (now bytes) (now out) from to ⌝ }
+    ensures { λ r. ⌜ Taken (now (bytes .entry)) (now (out .entry)) (now (out .exit)) from to (r .from) (r .to) ⌝ }
+{
+    let mut i = from;
+    let mut n = to;
+    while SPACED <= bytes.len() - i {
+        let r = take_spaced(bytes, i, out, n);
+        if r.from == i {
+            return r;
+        }
+        i = r.from;
+        n = r.to;
+    }
+    Reached { from: i, to: n }
+}
+
 // The sequence of four bytes at a byte from F0 on.
 fn take_four(bytes: &[u8], from: usize, out: &mut [u32], to: usize) -> Reached
-    requires { ⌜ Room (now bytes) (now out) from to × (0xF0 ≤ byteAt (now bytes) from) ⌝ }
+    requires { ⌜ Room (now bytes) (now out) from to × (LEADS-FOUR ≤ byteAt (now bytes) from) ⌝ }
     ensures { λ r. ⌜ Took (now (bytes .entry)) (now (out .entry)) (now (out .exit)) from to (r .from) (r .to) ⌝ }
 {
     if !is_four(bytes, from) {
@@ -100,20 +215,22 @@ fn take_four(bytes: &[u8], from: usize, out: &mut [u32], to: usize) -> Reached
     }
 }
 
-// What stands at `from`, and more of the same length.
+// What stands at `from`, and more of the same length or with ASCII bytes among it.
 fn take_some(bytes: &[u8], from: usize, out: &mut [u32], to: usize) -> Reached
     requires { ⌜ Room (now bytes) (now out) from to ⌝ }
     ensures { λ r. ⌜ Took (now (bytes .entry)) (now (out .entry)) (now (out .exit)) from to (r .from) (r .to) ⌝ }
 {
     let a = bytes[from];
-    if a < 0x80 {
+    if a < NO_ASCII {
         return take_ascii(bytes, from, out, to);
     }
-    if a < 0xE0 {
-        return take_twos(bytes, from, out, to);
+    if a < LEADS_THREE {
+        let r = take_two(bytes, from, out, to);
+        return take_pairs(bytes, r.from, out, r.to);
     }
-    if a < 0xF0 {
-        return take_threes(bytes, from, out, to);
+    if a < LEADS_FOUR {
+        let r = take_threes(bytes, from, out, to);
+        return take_all_spaced(bytes, r.from, out, r.to);
     }
     take_four(bytes, from, out, to)
 }

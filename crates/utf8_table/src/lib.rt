@@ -27,7 +27,13 @@ pub fn is_two(b: &[u8], i: usize) -> bool
     (0xC2 <= wide(b[i])) & in_range(0x80, 0xBF, wide(b[i + 1]))
 }
 
-// Whether a sequence of three stands at i, where the byte is E0 to EF. E0 and ED have narrower bounds for the second byte.
+// A first byte and the first three bits of the second, as one number: E0 before 80 to 9F, and ED before A0 to BF.
+const OVERLONG: u32 = 0xE0 * 8 + 4;
+
+const SURROGATE: u32 = 0xED * 8 + 5;
+
+// Whether a sequence of three stands at i, where the byte is E0 to EF. E0 and ED have narrower bounds for the second byte, told by two
+// numbers: bounds picked by the first byte are more tests.
 pub fn is_three(b: &[u8], i: usize) -> bool
     requires { ⌜ i < length (now b) ⌝ }
     ensures { λ r. ⌜ r ≡ leadsThree (byteAt (now (b .entry)) i) (byteAt (now (b .entry)) (i + 1)) (byteAt (now (b .entry)) (i + 2)) ⌝ }
@@ -35,10 +41,9 @@ pub fn is_three(b: &[u8], i: usize) -> bool
     if b.len() - i < 3 {
         return false;
     }
-    let a = wide(b[i]);
-    let lo = pick(a == 0xE0, 0xA0, 0x80);
-    let hi = pick(a == 0xED, 0x9F, 0xBF);
-    in_range(lo, hi, wide(b[i + 1])) & in_range(0x80, 0xBF, wide(b[i + 2]))
+    let second = wide(b[i + 1]);
+    let led = wide(b[i]) * 8 + second / 32;
+    (second / 64 == 2) & (led != OVERLONG) & (led != SURROGATE) & (wide(b[i + 2]) / 64 == 2)
 }
 
 // Whether a sequence of four stands at i, where the byte is F0 or more. F0 and F4 have narrower bounds for the second byte.

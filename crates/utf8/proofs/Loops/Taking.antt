@@ -1,5 +1,5 @@
 -- The one pass: what holds when the bytes up to a place are taken, one sequence more, a run of ASCII more, and two parts that follow each other. Assumes nothing.
-use Prim.Native.Nat.{ℕ, _+_, _-_, _/_, _≤_, _<_}
+use Prim.Native.Nat.{ℕ, _+_, _-_, _*_, _/_, _≤_, _<_}
 use mathlib.Core.Path.{_≡_, refl, sym, ap, subst, _∙_}
 use mathlib.Core.List.{List, [], _∷_, _++_, append-assoc, append-nil}
 use mathlib.Core.Bool.{true, false}
@@ -7,12 +7,12 @@ use native.Mathlib.Nat.{add-zero}
 use native.Mathlib.Numerals.{add-one}
 use native.Mathlib.Omega.{arith}
 use lib.ListN.{length, take, drop, set, length-set, length-append}
-use lib.Seq.{take-suc-set, take-length, take-paste}
+use lib.Seq.{take-suc-set, take-set-le, take-length, take-paste}
 use lib.Dec.{leb}
 use borrow.Author.Tests.{leb-true}
 use Rattle.base.specs.Put.{put}
 use Rattle.base.proofs.Laws.Put.{put-length, put-all}
-use Rattle.base.proofs.Laws.Tests.{and-l}
+use Rattle.base.proofs.Laws.Tests.{and-l, split}
 use Rattle.utf8_table.specs.WellFormed.{Step, pointOfTwo, pointOfThree, pointOfFour, noRow, byteAt, continues, stepAt}
 use Rattle.utf8_table.specs.Inner.ByLead.{leadsTwo, leadsThree, leadsFour}
 use Rattle.utf8_table.proofs.Laws.Complete.{got}
@@ -20,7 +20,7 @@ use Rattle.utf8.specs.declared.Measured.the-variants.{Points, Fault}
 use Rattle.utf8.specs.Text.{Reading, ended, after, reading, textOf, faultAt}
 use Rattle.utf8.specs.Inner.Answer.{measured}
 use Rattle.utf8.specs.Inner.Ascii.{AsciiRun}
-use Rattle.utf8.specs.Inner.Taking.{from, Room, Taken, Took}
+use Rattle.utf8.specs.Inner.Taking.{NO-ASCII, PAIR, from, Room, Behind, Beyond, Taken, Took}
 use Rattle.utf8.proofs.Laws.Text.{past, from-start, from-end, is-whole, is-broken}
 use Rattle.utf8.proofs.Laws.Ascii.{run-text}
 use Rattle.utf8.proofs.Laws.Going.{goes-on, fits, run-length}
@@ -90,6 +90,19 @@ module _ (bytes : List ℕ) where
               ∙ append-assoc (take n old) (t .points) (p ∷ []);
         }
 
+    -- what is written past what is taken is of no account
+    taken-aside : (k p : ℕ) → m ≤ k → Taken bytes old (set new k p) i n j m
+    taken-aside k p h =
+        record {
+          inside = t .inside;
+          few = t .few;
+          same = length-set new k p ∙ t .same;
+          points = t .points;
+          many = t .many;
+          reads = t .reads;
+          front = take-set-le m new k p h ∙ t .front;
+        }
+
     module _ (q : Room bytes old i n) where
       -- as many places are left as bytes, or more
       pub taken-step : (k p : ℕ) → stepAt bytes j ≡ got k p → 1 ≤ k → Further bytes old new i n j m k p
@@ -130,6 +143,103 @@ module _ (bytes : List ℕ) where
               ∙ ap (λ (x : List ℕ). x ++ u .points) (t .front)
               ∙ append-assoc (take n old) (t .points) (u .points);
         }
+
+  -- and so is what stood there before
+  taken-over : (old new : List ℕ) (i n j m p : ℕ) → Taken bytes (set old n p) new i n j m → Taken bytes old new i n j m
+  taken-over old new i n j m p t =
+      record {
+        inside = t .inside;
+        few = t .few;
+        same = t .same ∙ length-set old n p;
+        points = t .points;
+        many = t .many;
+        reads = t .reads;
+        front = t .front ∙ ap (λ (x : List ℕ). x ++ t .points) (take-set-le n old n p (omega arith));
+      }
+
+  -- where something is left behind what is taken, there is room for it
+  pub room-on : (old new : List ℕ) (i n j m : ℕ) → Behind bytes old i n → Taken bytes old new i n j m → j < length bytes → Room bytes new j m
+  room-on old new i n j m q t h = record { left = h; places = omega (arith, q .places, t .few, t .same) }
+
+  -- what is taken behind what was taken, of which there is some or no sequence stands there
+  pub took-on : (old new : List ℕ) (i n j m : ℕ) → Took bytes old new i n j m → (last : List ℕ) (k l : ℕ) → Taken bytes new last j m k l
+      → Took bytes old last i n k l
+  took-on old new i n j m t last k l u =
+      let h = taken-on old new i n j m (t .taken) in
+      let g = taken-on new last j m k l u in
+      record { taken = taken-join old new i n j m (t .taken) last k l u; none = λ e. t .none (omega (arith, h, g, e)) }
+
+  module _ (out : List ℕ) (i n : ℕ) (q : Room bytes out i n) where
+    pub place-behind : (k p : ℕ) → i + k < length bytes → n + k < length (set out n p)
+    place-behind k p h = omega (arith, q .places, h, length-set out n p)
+
+    pub place-third : (p z s : ℕ) → s ≤ 1 → i + PAIR ≤ length bytes → n + 1 + s < length (set (set out n p) (n + 1) z)
+    place-third p z s k h = omega (arith, q .places, h, k, length-set out n p, length-set (set out n p) (n + 1) z)
+
+    here : Taken bytes out out i n i n
+    here = taken-none out i n (omega (arith, q .left))
+
+    -- a sequence of three, behind an ASCII byte or over the place of one
+    pub taken-spaced : (f p : ℕ) → Beyond (byteAt bytes i) f → stepAt bytes (i + (1 - f)) ≡ got 3 p
+        → Taken bytes out (set (set out n (byteAt bytes i)) (n + (1 - f)) p) i n (i + (1 - f) + 3) (n + (1 - f) + 1)
+    taken-spaced f p b e =
+        let a = byteAt bytes i in
+        split a NO-ASCII
+        (λ h.
+        let g : 1 - f ≡ 1 = omega (arith, b .is, h) in
+        let t = taken-step out out i n i n here q 1 a (at-one bytes i (q .left) h) (omega arith) .next in
+        rw g (taken-step out (set out n a) i n (i + 1) (n + 1) t q 3 p (rw g at e) (omega arith) .next))
+        (λ h.
+        let g : f ≡ 1 = omega (arith, b .is, b .small, h) in
+        let g₁ : i + (1 - f) ≡ i = omega (arith, g) in
+        let g₂ : n + (1 - f) ≡ n = omega (arith, g) in
+        let l = length-set out n a in
+        let r : Room bytes (set out n a) i n = record { left = q .left; places = omega (arith, q .places, l) } in
+        let t = taken-none (set out n a) i n (omega (arith, q .left)) in
+        rw (g₁, g₂)
+        (taken-over out _ i n (i + 3) (n + 1) a (taken-step (set out n a) (set out n a) i n i n t r 3 p (rw g₁ at e) (omega arith) .next)))
+
+    -- a sequence of two, and behind it an ASCII byte, or another with or without one; z and s are what is written there
+    module _ (p : ℕ) (e : stepAt bytes i ≡ got 2 p) (z : ℕ) where
+      first-two : Taken bytes out (set out n p) i n (i + 2) (n + 1)
+      first-two = taken-step out out i n i n here q 2 p e (omega arith) .next
+
+      both : stepAt bytes (i + 2) ≡ got 2 z → Taken bytes out (set (set out n p) (n + 1) z) i n (i + 2 + 2) (n + 1 + 1)
+      both g = taken-step out (set out n p) i n (i + 2) (n + 1) first-two q 2 z g (omega arith) .next
+
+      pub taken-pair : (s f : ℕ) → Beyond (byteAt bytes (i + 2)) s → Beyond (byteAt bytes (i + 4)) f
+          → (NO-ASCII ≤ byteAt bytes (i + 2) → stepAt bytes (i + 2) ≡ got 2 z) → i + PAIR ≤ length bytes
+          → Taken bytes out (set (set (set out n p) (n + 1) z) (n + 1 + s) (byteAt bytes (i + 2 + 2 * s))) i n
+          (i + 3 + s + (s + 1 - f) / 2) (n + 2 + (s + 1 - f) / 2)
+      taken-pair s f b c g h =
+          let new = set (set out n p) (n + 1) z in
+          split (byteAt bytes (i + 2)) NO-ASCII
+          (λ k.
+          let w : s ≡ 0 = omega (arith, b .is, k) in
+          let w₁ : n + 1 + s ≡ n + 1 = omega (arith, w) in
+          let w₂ : i + 2 + 2 * s ≡ i + 2 = omega (arith, w) in
+          let w₃ : i + 3 + s + (s + 1 - f) / 2 ≡ i + 2 + 1 = omega (arith, w) in
+          let w₄ : n + 2 + (s + 1 - f) / 2 ≡ n + 1 + 1 = omega (arith, w) in
+          rw (w₁, w₂, w₃, w₄)
+          (taken-step out new i n (i + 2) (n + 1) (taken-aside _ _ _ _ _ _ first-two (n + 1) z (omega arith)) q 1 _
+          (at-one bytes (i + 2) (omega (arith, h)) k) (omega arith) .next))
+          (λ k.
+          let w : s ≡ 1 = omega (arith, b .is, b .small, k) in
+          let w₁ : n + 1 + s ≡ n + 1 + 1 = omega (arith, w) in
+          let w₂ : i + 2 + 2 * s ≡ i + 4 = omega (arith, w) in
+          split (byteAt bytes (i + 4)) NO-ASCII
+          (λ l.
+          let v : f ≡ 0 = omega (arith, c .is, l) in
+          let w₃ : i + 3 + s + (s + 1 - f) / 2 ≡ i + 4 + 1 = omega (arith, w, v) in
+          let w₄ : n + 2 + (s + 1 - f) / 2 ≡ n + 1 + 1 + 1 = omega (arith, w, v) in
+          let j : i + 2 + 2 ≡ i + 4 = omega arith in
+          rw (w₁, w₂, w₃, w₄)
+          (taken-step out new i n (i + 4) (n + 1 + 1) (rw j at (both (g k))) q 1 _ (at-one bytes (i + 4) (omega (arith, h)) l) (omega arith) .next))
+          (λ l.
+          let v : f ≡ 1 = omega (arith, c .is, c .small, l) in
+          let w₃ : i + 3 + s + (s + 1 - f) / 2 ≡ i + 2 + 2 = omega (arith, w, v) in
+          let w₄ : n + 2 + (s + 1 - f) / 2 ≡ n + 1 + 1 = omega (arith, w, v) in
+          rw (w₁, w₃, w₄) (taken-aside _ _ _ _ _ _ (both (g k)) (n + 1 + 1) _ (omega arith))))
 
   module _ (i : ℕ) (h : i < length bytes) where
     -- where a loop ends at the place that it began at, no sequence stands there: j is where it ends

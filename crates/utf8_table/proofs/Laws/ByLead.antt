@@ -1,13 +1,13 @@
 -- Table 3-7 by the first byte, the form that the code tests: 80 to DF leads two bytes, E0 to EF three, F0 and up four, with bounds for
 -- the second byte that hang on the first. `row-one`, `row-two`, `row-three` and `row-four` say that this is the table. Assumes nothing.
-use Prim.Native.Nat.{ℕ, _≤_, _<_}
+use Prim.Native.Nat.{ℕ, _+_, _*_, _/_, _≤_, _<_}
 use mathlib.Core.Path.{_≡_, refl, _∙_}
-use mathlib.Core.Bool.{Bool, true, false, cond, _&&_}
+use mathlib.Core.Bool.{Bool, true, false, not, cond, _&&_}
 use native.Mathlib.Omega.{arith}
 use lib.Dec.{leb, eqb}
-use borrow.Author.Tests.{le-leb, lt-leb, ne-eqb}
+use borrow.Author.Tests.{le-leb, lt-leb, eq-eqb, ne-eqb, eqb-true, eqb-false}
 use Rattle.base.specs.Tests.{within}
-use Rattle.base.proofs.Laws.Tests.{split, within-yes, within-below, within-above}
+use Rattle.base.proofs.Laws.Tests.{by-bool, cond-both, split, within-yes, within-below, within-above}
 use Rattle.utf8_table.specs.WellFormed.{Step, one, two, three, four, noRow, continues, isTwo, isThree, isFour, rowsOfThree, rowsOfFour, row}
 use Rattle.utf8_table.specs.Inner.ByLead.{leadsTwo, leadsThree, leadsFour}
 
@@ -121,3 +121,48 @@ pub cut-four : (a b c d : ℕ) → d ≡ 0 → leadsFour a b c d ≡ false
 unfolding leadsFour
 cut-four a b c d e =
     rw e (and-no (leb a 0xF4 && within (cond (eqb a 0xF0) 0x90 0x80) (cond (eqb a 0xF4) 0x8F 0xBF) b && continues c))
+
+-- a byte that continues has 10 for its first two bits
+pub continues-told : (c : ℕ) → eqb (c / 64) 2 ≡ continues c
+continues-told c =
+    split c 0x80 (λ h. rw (ne-eqb (c / 64) 2 (λ e. omega arith), within-below 0x80 0xBF c h))
+    (λ h. split c 0xC0
+    (λ k. rw (eq-eqb (c / 64) 2 (omega arith), within-yes 0x80 0xBF c h (omega arith)))
+    (λ k. rw (ne-eqb (c / 64) 2 (λ e. omega arith), within-above 0x80 0xBF c h k)))
+
+-- the bounds of the second byte of three, told by two numbers that are made of a first byte and three bits of the second
+module _ (a b : ℕ) where
+  abbrev lo : ℕ
+  lo = cond (eqb a 0xE0) 0xA0 0x80
+
+  abbrev hi : ℕ
+  hi = cond (eqb a 0xED) 0x9F 0xBF
+
+  lo-most : 0xA0 ≤ b → lo ≤ b
+  lo-most h = cond-both (λ (x : ℕ). x ≤ b) (eqb a 0xE0) 0xA0 0x80 h (omega arith)
+
+  pub second-told : (eqb (b / 64) 2 && not (eqb (a * 8 + b / 32) 0x704)) && not (eqb (a * 8 + b / 32) 0x76D) ≡ within lo hi b
+  second-told =
+      split b 0x80
+      (λ h. rw (
+        ne-eqb (b / 64) 2 (λ e. omega arith),
+        within-below lo hi b (cond-both (λ (x : ℕ). b < x) (eqb a 0xE0) 0xA0 0x80 (omega arith) h),
+      ))
+      (λ h. split b 0xC0
+      (λ k. split b 0xA0
+      (λ l. rw (eq-eqb (b / 64) 2 (omega arith), ne-eqb (a * 8 + b / 32) 0x76D (λ e. omega arith))
+      (by-bool (eqb a 0xE0)
+      (λ e. let f : a ≡ 0xE0 = eqb-true a 0xE0 e in rw (e, eq-eqb (a * 8 + b / 32) 0x704 (omega arith), within-below 0xA0 hi b l))
+      (λ e. rw (
+        e,
+        ne-eqb (a * 8 + b / 32) 0x704 (λ f. eqb-false a 0xE0 e (omega arith)),
+        within-yes 0x80 hi b h (cond-both (λ (x : ℕ). b ≤ x) (eqb a 0xED) 0x9F 0xBF (omega arith) (omega arith)),
+      ))))
+      (λ l. rw (eq-eqb (b / 64) 2 (omega arith), ne-eqb (a * 8 + b / 32) 0x704 (λ e. omega arith))
+      (by-bool (eqb a 0xED)
+      (λ e. let f : a ≡ 0xED = eqb-true a 0xED e in rw (e, eq-eqb (a * 8 + b / 32) 0x76D (omega arith), within-above lo 0x9F b (lo-most l) l))
+      (λ e. rw (e, ne-eqb (a * 8 + b / 32) 0x76D (λ f. eqb-false a 0xED e (omega arith)), within-yes lo 0xBF b (lo-most l) (omega arith))))))
+      (λ k. rw (
+        ne-eqb (b / 64) 2 (λ e. omega arith),
+        within-above lo hi b (lo-most (omega arith)) (cond-both (λ (x : ℕ). x < b) (eqb a 0xED) 0x9F 0xBF (omega arith) k),
+      )))
