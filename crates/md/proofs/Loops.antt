@@ -1,3 +1,1 @@
 pub mod Going
-pub mod Rest
-pub mod Whole

@@ -1,5 +1,3 @@
 pub mod Going
+pub mod Looked
 pub mod Ready
-pub mod Rest
-pub mod Runs
-pub mod Whole

@@ -14,12 +14,9 @@ use scan::scan_text;
 use tables::check_lent;
 use tables::check_tables;
 
-mod rest;
-mod runs;
 pub mod scan;
+mod step;
 pub mod tables;
-mod text;
-mod whole;
 
 // f32 0.15, which is used where no threshold is given: stricter than the 0.2 of 01 (02 [5]).
 pub const DEFAULT_THRESHOLD: f32 = 0.15;

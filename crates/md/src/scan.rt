@@ -3,29 +3,24 @@ ghost use mathlib.Core.Path.{_≡_};
 ghost use mathlib.Core.Bool.{true, _&&_};
 ghost use Prim.Native.Nat.{_+_, _≤_, _<_};
 ghost use lib.ListN.{length};
-ghost use Rattle.base.specs.Limits.{LONGEST-TEXT, LAST-RANGE, PAIR-BYTES};
+ghost use Rattle.base.specs.Limits.{LONGEST-TEXT};
 ghost use Rattle.class_builtin.specs.Inner.Words.{packedWords};
 ghost use Rattle.class_records.specs.Records.{goodTable};
 ghost use Rattle.classes.specs.Inner.Tables.{Tables};
 ghost use Rattle.ratio.specs.Inner.Eight.{EachSmall};
 ghost use Rattle.md_eight.specs.Inner.Detectors as detectors;
-ghost use Rattle.md_eight.specs.Detectors.{lastRange};
 ghost use Rattle.md_meaning.specs.Text.{checkpoint, total};
 ghost use Rattle.md_meaning.specs.Scan as scans;
 ghost use Rattle.md_meaning.specs.Inner.Scan.{scan};
 ghost use Rattle.md_meaning.specs.Inner.Scan as scanned;
 ghost use Rattle.md.specs.Inner.Going as going;
+ghost use Rattle.md.specs.Inner.Looked.{LookedAt};
 ghost use Rattle.md.specs.Inner.Ready.{Ready};
-ghost use Rattle.md.specs.Inner.Runs.{LookedAt};
-use crate::runs::fed_run;
-use crate::text::at_checkpoint;
-use crate::text::char_at;
+use crate::step::fed_run;
 use crate::unscored;
-use crate::whole::unclassed_rest;
 use base::limits::BUILTIN_END;
 use base::refusals::UNCLASSED;
 use class_builtin::Table;
-use classes::Class;
 use classes::Found;
 use classes::HINTS;
 use classes::builtin_class;
@@ -35,6 +30,9 @@ use md_eight::Detectors;
 use md_meaning::Limit;
 use md_meaning::Score;
 use md_meaning::Scored;
+use md_rest::whole::unclassed_rest;
+use md_text::at_checkpoint;
+use md_text::char_at;
 use ratio::EightCounts;
 use ratio::rounding;
 use ratio::telling;
@@ -68,15 +66,6 @@ fn class_at(
         found: class_in(p, held, classes),
         held,
     }
-}
-
-// One character, fed to the eight, with the pair table's bit for its range after the last one.
-pub fn fed(s: Detectors, c: Class, pairs: &[u8]) -> Detectors
-    requires { ⌜ detectors.Room s × (length (now pairs) ≡ PAIR-BYTES) × (lastRange s ≤ LAST-RANGE) × (c .range ≤ LAST-RANGE) ⌝ }
-    ensures { λ r. ⌜ r ≡ scans.fed (now (pairs .entry)) s c ⌝ }
-{
-    let suspicious = classes::is_suspicious(pairs, s.last_range(), c.range);
-    s.feed(c, suspicious)
 }
 
 fn sum_of(s: Detectors) -> f32

@@ -28,10 +28,10 @@ use Rattle.md_meaning.specs.Text.{total, checkpoint}
 use Rattle.md_meaning.specs.Scan.{classAt, unclassed, stateAt, stops, sumOf, reaches, scored, acceptedScore, noClass}
 use Rattle.md_meaning.specs.Inner.Scan.{refused, scan}
 use Rattle.md_meaning.proofs.Laws.Scan.{is-unclassed, state-start, state-within, state-fed-count, unless-allowed, unless-at}
-use Rattle.md.specs.declared.runs.Fed.{Fed}
+use Rattle.md_rest.proofs.Laws.Rest.{first-passed}
+use Rattle.md_runs.specs.declared.Fed.{Fed}
+use Rattle.md_runs.specs.Inner.Runs.{Before, Advanced}
 use Rattle.md.specs.Inner.Going.{stoppedAfter}
-use Rattle.md.specs.Inner.Runs.{Before, Advanced}
-use Rattle.md.proofs.Laws.Rest.{first-passed}
 
 module _ (classes text : List ℕ) (s : Detectors) (i bad : ℕ) (b : bad ≡ firstFrom (unclassed classes text) (total text) (i + 1)) where
   pub stopped-missing : bad ≤ length text → refused UNCLASSED bad ≡ stoppedAfter classes text s i

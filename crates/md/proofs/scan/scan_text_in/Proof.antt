@@ -4,7 +4,7 @@ use Prim.Native.Nat.{_-_}
 use mathlib.Core.Path.{sym, _∙_}
 use native.Mathlib.Omega.{arith}
 use Rattle.md.proofs.Loops.Going.{Going, going-start, going-before, going-countable, going-missing, fed-countable, fed-counted, going-on, going-stopped, going-ended}
-use Rattle.md.proofs.Laws.Runs.{before-looked, advanced-slim}
+use Rattle.md_runs.proofs.Laws.Runs.{before-looked, advanced-slim}
 use Rattle.md_meaning.proofs.Laws.Scan.{answered-state}
 use borrow.Author.Needs.{needs}
 use Rattle.md.proofs.scan.scan_text_in.Statement.{statement}

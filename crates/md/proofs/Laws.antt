@@ -1,4 +1,0 @@
-pub mod Ascii
-pub mod Rest
-pub mod Runs
-pub mod Whole
