@@ -10,6 +10,7 @@ ghost use Rattle.classes.specs.Lookup.{orSelf};
 ghost use Rattle.md_eight.specs.Inner.Runs as kinds;
 ghost use Rattle.md_meaning.specs.Text.{total};
 ghost use Rattle.md_runs.specs.Inner.Runs.{Low, High, AlikeOf, Run, Before, Lent, HeldAt, Spaced, Advanced};
+use ahead::past_letters;
 use base::limits::BUILTIN_END;
 use class_records::record_at;
 use class_records::search::first_of;
@@ -27,6 +28,8 @@ use md_rest::rest::past_within;
 use md_text::at_checkpoint;
 use md_text::fed;
 use md_text::piece_end;
+
+mod ahead;
 
 // What a step of the scan comes to: the state, and the index of the character that comes next.
 pub struct Fed {
@@ -47,6 +50,14 @@ pub fn run_end(text: &[u32], i: usize, low: u32, high: u32) -> usize
     ensures { λ r. ⌜ Run (now (text .entry)) low high i r ⌝ }
 {
     past_within(text, i + 1, piece_end(text.len(), i), low, high)
+}
+
+// The same for letters with case.
+fn letters_end(text: &[u32], i: usize, low: u32, high: u32) -> usize
+    requires { ⌜ (i < length (now text)) × (length (now text) ≤ LONGEST-TEXT) ⌝ }
+    ensures { λ r. ⌜ Run (now (text .entry)) low high i r ⌝ }
+{
+    past_letters(text, i + 1, piece_end(text.len(), i), low, high)
 }
 
 // The first of a record, or the code point past the wrong stops where p stands past them.
@@ -106,7 +117,7 @@ fn fed_cased(
     ensures { λ r. ⌜ Advanced (now (classes .entry)) (now (pairs .entry)) (now (text .entry)) i r ⌝ }
 {
     let near = kin_of(c.point, held, classes);
-    let next = run_end(text, i, near.low, near.high);
+    let next = letters_end(text, i, near.low, near.high);
     let last = text[next - 1];
     let suspicious = is_suspicious(pairs, s.last_range(), c.range);
     let again = is_suspicious(pairs, c.range, c.range);

@@ -54,7 +54,7 @@ pub fn at_checkpoint(n: usize, i: usize) -> bool
 }
 
 // The smaller of two indexes.
-fn nearer(a: usize, b: usize) -> usize
+pub fn nearer(a: usize, b: usize) -> usize
     ensures { λ r. ⌜ Nearer a b r ⌝ }
 {
     if a < b {

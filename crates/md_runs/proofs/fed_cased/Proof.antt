@@ -10,8 +10,8 @@ kin-of-requires c κs =
     let at-pre = c .before .before .before .pre in
     at-pre .1
 
-run-end-requires : tie.Need-run-end-requires
-run-end-requires c κs =
+letters-end-requires : tie.Need-letters-end-requires
+letters-end-requires c κs =
     let asked = c .before .before .before .before .pre in
     (lent-inside _ _ _ _ _ _ (asked .0) _ (asked .1), asked .0 .short)
 
@@ -28,7 +28,7 @@ is-suspicious-requires-2 c κs =
 cased-run-requires : tie.Need-cased-run-requires
 cased-run-requires c κs =
     let asked = c .before .before .before .before .before .before .before .before .before .before .pre in
-    let ended = c .before .before .before .before .before .run-end in (
+    let ended = c .before .before .before .before .before .letters-end in (
       before-room _ _ _ _ _ _ (asked .0),
       omega (arith, ended .ensures .begins),
       omega (arith, ended .ensures .ends, asked .0 .short),
@@ -37,10 +37,10 @@ cased-run-requires c κs =
 returns : tie.Need-returns
 returns c =
     let at-kin-of = c .before .before .before .before .before .before .before .kin-of in
-    let at-run-end = c .before .before .before .before .before .before .run-end in
+    let at-letters-end = c .before .before .before .before .before .before .letters-end in
     let at-last-range = c .before .before .before .before .last-range in
     let asked = c .before .before .before .before .before .before .before .before .before .before .before .pre in
-    cased-step _ _ _ _ _ _ (asked .0) _ (asked .1) _ (at-kin-of .ensures) _ (at-run-end .ensures) (asked .2) _ _ _ _ (c .before .own-base .ensures) (at-last-range .ensures)
+    cased-step _ _ _ _ _ _ (asked .0) _ (asked .1) _ (at-kin-of .ensures) _ (at-letters-end .ensures) (asked .2) _ _ _ _ (c .before .own-base .ensures) (at-last-range .ensures)
     (c .before .before .before .is-suspicious .ensures)
     (c .before .before .is-suspicious2 .ensures)
     _
@@ -51,7 +51,7 @@ fed-cased-spec =
     tie.close
     (tie.spec
     kin-of-requires
-    run-end-requires
+    letters-end-requires
     (λ c. search needs)
     (λ c. search needs)
     (λ c. search needs)
