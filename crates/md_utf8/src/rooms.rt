@@ -16,7 +16,7 @@ use classes::HINTS;
 use md::scan::scan_text_in;
 use md_meaning::Limit;
 use md_meaning::Scored;
-use utf8::taking::take_utf8;
+use utf8_taking::take_utf8;
 
 // Code points of a text that goes through the small room, which costs little to clear: most console lines.
 pub const SHORT: usize = 256;

@@ -1,4 +1,4 @@
 pub mod Answer
 pub mod Ascii
 pub mod Readable
-pub mod Taking
+pub mod Text

@@ -14,7 +14,7 @@ use Rattle.base.proofs.Laws.Tests.{split, and-l, and-r}
 use Rattle.utf8_table.specs.WellFormed.{one, byteAt, stepAt}
 use Rattle.utf8_table.proofs.Laws.ByLead.{row-one}
 use Rattle.utf8.specs.Text.{after}
-use Rattle.utf8.specs.Inner.Taking.{from}
+use Rattle.utf8.specs.Inner.Text.{from}
 use Rattle.utf8.proofs.Laws.Text.{at-row, from-step}
 use Rattle.utf8.specs.Inner.Ascii.{AsciiRun, isAscii, asciiOn}
 

@@ -8,7 +8,7 @@ use lib.Seq.{length-take-le}
 use Rattle.utf8_table.specs.WellFormed.{stepAt}
 use Rattle.utf8_table.proofs.Laws.Complete.{got}
 use Rattle.utf8.specs.Text.{after}
-use Rattle.utf8.specs.Inner.Taking.{from}
+use Rattle.utf8.specs.Inner.Text.{from}
 use Rattle.utf8.proofs.Laws.Text.{from-step, step-fits}
 use Rattle.utf8.specs.Inner.Ascii.{AsciiRun}
 

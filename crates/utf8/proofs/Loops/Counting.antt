@@ -10,7 +10,7 @@ use Rattle.utf8_table.specs.Inner.ByLead.{leadsTwo, leadsThree, leadsFour}
 use Rattle.utf8_table.proofs.Laws.Complete.{got}
 use Rattle.utf8.specs.declared.Measured.the-variants.{Points, Fault}
 use Rattle.utf8.specs.Text.{Reading, after, textOf, faultAt}
-use Rattle.utf8.specs.Inner.Taking.{from}
+use Rattle.utf8.specs.Inner.Text.{from}
 use Rattle.utf8.proofs.Laws.Text.{past, from-start, from-end, is-whole, is-broken}
 use Rattle.utf8.specs.Inner.Ascii.{AsciiRun}
 use Rattle.utf8.proofs.Laws.Ascii.{run-first, run-text}

@@ -12,7 +12,7 @@ use Rattle.base.proofs.Laws.Put.{put-length, put-back, put-first, put-all}
 use Rattle.utf8_table.specs.WellFormed.{pointOfTwo, pointOfThree, pointOfFour, byteAt, stepAt}
 use Rattle.utf8_table.proofs.Laws.Complete.{got}
 use Rattle.utf8.specs.Text.{Reading, after, textOf, wellFormed}
-use Rattle.utf8.specs.Inner.Taking.{from}
+use Rattle.utf8.specs.Inner.Text.{from}
 use Rattle.utf8.proofs.Laws.Text.{past, from-start, from-end, whole-is}
 use Rattle.utf8.specs.Inner.Ascii.{AsciiRun}
 use Rattle.utf8.proofs.Laws.Ascii.{run-text}
