@@ -1,6 +1,6 @@
 // UTF-8 read in one pass, into a room of the caller's own with a place for each byte: what stands there after a fault is of no account, so that nothing has to be checked
-// before it is written. Sequences of one length in a row are taken by a loop of their own. Where words end no processor foresees, so that sequences of two and three that have stood together go on in a loop whose
-// turn takes an ASCII byte among them without a branch: it is written where it would stand, and counted or not.
+// before it is written. Sequences of one length in a row are taken by a loop of their own. Where words end no processor foresees: sequences of two are looked at eight together, with
+// no branch among them, and those of three that have stood together go on in a loop whose turn takes an ASCII byte before them without one: it is written where it would stand, and counted or not.
 use base::Counted;
 use base::not_counted;
 use base::refusals::ILL_FORMED;
@@ -15,13 +15,13 @@ use utf8_table::is_two;
 use utf8_table::three_at;
 use utf8_table::two_at;
 ghost use mathlib.Core.Path.{_≡_};
-ghost use Prim.Native.Nat.{_+_, _≤_, _<_};
+ghost use Prim.Native.Nat.{_+_, _*_, _≤_, _<_};
 ghost use lib.ListN.{length, take};
 ghost use Rattle.base.specs.Limits.{LONGEST-TEXT};
 ghost use Rattle.utf8_table.specs.WellFormed.{byteAt};
 ghost use Rattle.utf8.specs.Text.{textOf};
 ghost use Rattle.utf8.specs.Inner.Answer.{measured, countUtf8};
-ghost use Rattle.utf8_taking.specs.Inner.Taking.{NO-ASCII, LEADS-THREE, LEADS-FOUR, PAIR, SPACED, Room, Behind, Taken, Took, Beyond, IfTwo, IfOneOrTwo};
+ghost use Rattle.utf8_taking.specs.Inner.Taking.{NO-ASCII, LEADS-THREE, LEADS-FOUR, AHEAD, SPACED, Room, Behind, Taken, Took, Beyond, IfTwo, Twos, Put};
 
 // The first byte that is no ASCII, the first that leads two, the first that leads three and the first that leads four bytes.
 const NO_ASCII: u8 = 0x80;
@@ -32,9 +32,10 @@ const LEADS_THREE: u8 = 0xE0;
 
 const LEADS_FOUR: u8 = 0xF0;
 
-// Bytes that a turn of two looks at, and of three.
-const PAIR: usize = 5;
+// Sequences of two that are looked at together.
+const AHEAD: usize = 8;
 
+// Bytes that a turn of three looks at.
 const SPACED: usize = 4;
 
 // How far the bytes are taken, and the places of the room.
@@ -89,55 +90,58 @@ fn two_stands(b: &[u8], i: usize) -> bool
     (LEADS_TWO <= b[i]) & (b[i] < LEADS_THREE) & (b[i + 1] / 64 == 2)
 }
 
-// Whether an ASCII byte or a sequence of two stands at i. What the second byte is held to hangs on the first by a sum, not by a branch.
-fn one_or_two_stands(b: &[u8], i: usize) -> bool
-    requires { ⌜ i + 2 ≤ length (now b) ⌝ }
-    ensures { λ r. ⌜ IfOneOrTwo r (now (b .entry)) i ⌝ }
+// How many sequences of two stand one behind the other from `from` on, of those that are looked at together. From the last to the first, so that each
+// costs a choice and no branch.
+fn twos_ahead(bytes: &[u8], from: usize) -> usize
+    requires { ⌜ from + 2 * AHEAD ≤ length (now bytes) ⌝ }
+    ensures { λ r. ⌜ Twos (now (bytes .entry)) from r ⌝ }
 {
-    let more = beyond_ascii(b, i);
-    let next = (wide(b[i + 1]) / 64) as usize;
-    ((b[i] < NO_ASCII) | (LEADS_TWO <= b[i]))
-        & (b[i] < LEADS_THREE)
-        & (2 * more <= next)
-        & (next + more <= 3)
+    let mut first = AHEAD;
+    let mut j = AHEAD;
+    while 0 < j {
+        j -= 1;
+        if !two_stands(bytes, from + 2 * j) {
+            first = j;
+        }
+    }
+    first
 }
 
-// A sequence of two and what stands behind it: an ASCII byte, or another sequence of two with or without an ASCII byte behind it. All three are written, and those that stand there are counted.
-fn take_pair(bytes: &[u8], from: usize, out: &mut [u32], to: usize) -> Reached
-    requires { ⌜ Room (now bytes) (now out) from to × (from + PAIR ≤ length (now bytes)) ⌝ }
-    ensures { λ r. ⌜ Taken (now (bytes .entry)) (now (out .entry)) (now (out .exit)) from to (r .from) (r .to) ⌝ }
+// Writes what the bytes are as sequences of two, as many as are looked at together: past those that stand there it is of no account.
+fn put_twos(bytes: &[u8], from: usize, out: &mut [u32], to: usize)
+    requires { ⌜ Room (now bytes) (now out) from to × (from + 2 * AHEAD ≤ length (now bytes)) ⌝ }
+    ensures { λ _. ⌜ Put (now (bytes .entry)) (now (out .entry)) (now (out .exit)) from to ⌝ }
 {
-    let stand = two_stands(bytes, from) & one_or_two_stands(bytes, from + 2);
-    if !stand {
-        return Reached { from: from, to: to };
-    }
-    let again = beyond_ascii(bytes, from + 2);
-    let more = (again + 1 - beyond_ascii(bytes, from + 4)) / 2;
-    out[to] = two_at(bytes, from);
-    out[to + 1] = two_at(bytes, from + 2);
-    out[to + 1 + again] = wide(bytes[from + 2 + 2 * again]);
-    Reached {
-        from: from + 3 + again + more,
-        to: to + 2 + more,
+    let mut j = 0;
+    while j < AHEAD {
+        out[to + j] = two_at(bytes, from + 2 * j);
+        j += 1;
     }
 }
 
-// Sequences of two, with single ASCII bytes among them, as long as they stand in pairs.
-fn take_pairs(bytes: &[u8], from: usize, out: &mut [u32], to: usize) -> Reached
+// The sequences of two from `from` on that are looked at together, and the ASCII byte behind them: most often a word and its space.
+fn take_letters(bytes: &[u8], from: usize, out: &mut [u32], to: usize) -> Reached
     requires { ⌜ Behind (now bytes) (now out) from to ⌝ }
     ensures { λ r. ⌜ Taken (now (bytes .entry)) (now (out .entry)) (now (out .exit)) from to (r .from) (r .to) ⌝ }
 {
-    let mut i = from;
-    let mut n = to;
-    while PAIR <= bytes.len() - i {
-        let r = take_pair(bytes, i, out, n);
-        if r.from == i {
-            return r;
-        }
-        i = r.from;
-        n = r.to;
+    if bytes.len() - from <= 2 * AHEAD {
+        return Reached { from: from, to: to };
     }
-    Reached { from: i, to: n }
+    if bytes[from] < NO_ASCII {
+        return Reached { from: from, to: to };
+    }
+    let many = twos_ahead(bytes, from);
+    put_twos(bytes, from, out, to);
+    let at = from + 2 * many;
+    let n = to + many;
+    if NO_ASCII <= bytes[at] {
+        return Reached { from: at, to: n };
+    }
+    out[n] = wide(bytes[at]);
+    Reached {
+        from: at + 1,
+        to: n + 1,
+    }
 }
 
 // The sequences of three bytes from a byte E0 to EF on.
@@ -226,7 +230,7 @@ fn take_some(bytes: &[u8], from: usize, out: &mut [u32], to: usize) -> Reached
     }
     if a < LEADS_THREE {
         let r = take_two(bytes, from, out, to);
-        return take_pairs(bytes, r.from, out, r.to);
+        return take_letters(bytes, r.from, out, r.to);
     }
     if a < LEADS_FOUR {
         let r = take_threes(bytes, from, out, to);

@@ -1,4 +1,4 @@
--- What stands at a place, by the tests of the one pass: sums and two bits in place of branches. Assumes nothing.
+-- What stands at a place, by the tests of the one pass. Assumes nothing.
 use Prim.Native.Nat.{ℕ, _+_, _*_, _/_, _≤_, _<_}
 use mathlib.Core.Path.{_≡_, sym, _∙_}
 use mathlib.Core.List.{List}
@@ -30,17 +30,3 @@ module _ (bytes : List ℕ) (i : ℕ) (h : i < length bytes) where
       let f = and-l (leb 0xC2 a && ltb a 0xE0) (eqb q 2) e in
       two-there (leb-true 0xC2 a (and-l (leb 0xC2 a) (ltb a 0xE0) f)) (ltb-true a 0xE0 (and-r (leb 0xC2 a) (ltb a 0xE0) f))
       (eqb-true q 2 (and-r (leb 0xC2 a && ltb a 0xE0) (eqb q 2) e))
-
-  -- where the first byte is no ASCII, the two sums ask that the second continues
-  pub one-or-two-tests : (more next : ℕ) → more ≡ byteAt bytes i / 128 → next ≡ byteAt bytes (i + 1) / 64
-      → (((ltb (byteAt bytes i) 0x80 || leb 0xC2 (byteAt bytes i)) && ltb (byteAt bytes i) 0xE0) && leb (2 * more) next) && leb (next + more) 3 ≡ true
-      → 0x80 ≤ byteAt bytes i → stepAt bytes i ≡ two (byteAt bytes i) (byteAt bytes (i + 1))
-  one-or-two-tests more next d f e k =
-      let a = byteAt bytes i in
-      let lead = ltb a 0x80 || leb 0xC2 a in
-      let e₁ = and-l ((lead && ltb a 0xE0) && leb (2 * more) next) (leb (next + more) 3) e in
-      let e₂ = and-l (lead && ltb a 0xE0) (leb (2 * more) next) e₁ in
-      let most = leb-true (next + more) 3 (and-r ((lead && ltb a 0xE0) && leb (2 * more) next) (leb (next + more) 3) e) in
-      let least = leb-true (2 * more) next (and-r (lead && ltb a 0xE0) (leb (2 * more) next) e₁) in
-      two-there (leb-true 0xC2 a (rw (le-ltb a 0x80 k) at (and-l lead (ltb a 0xE0) e₂))) (ltb-true a 0xE0 (and-r lead (ltb a 0xE0) e₂))
-      (omega (arith, d, f, most, least, k))

@@ -13,7 +13,7 @@ use borrow.Author.Tests.{leb-true}
 use Rattle.base.specs.Put.{put}
 use Rattle.base.proofs.Laws.Put.{put-length, put-all}
 use Rattle.base.proofs.Laws.Tests.{and-l, split}
-use Rattle.utf8_table.specs.WellFormed.{Step, pointOfTwo, pointOfThree, pointOfFour, noRow, byteAt, continues, stepAt}
+use Rattle.utf8_table.specs.WellFormed.{Step, two, pointOfTwo, pointOfThree, pointOfFour, noRow, byteAt, continues, stepAt}
 use Rattle.utf8_table.specs.Inner.ByLead.{leadsTwo, leadsThree, leadsFour}
 use Rattle.utf8_table.proofs.Laws.Complete.{got}
 use Rattle.utf8.specs.declared.Measured.the-variants.{Points, Fault}
@@ -21,7 +21,7 @@ use Rattle.utf8.specs.Text.{Reading, ended, after, reading, textOf, faultAt}
 use Rattle.utf8.specs.Inner.Text.{from}
 use Rattle.utf8.specs.Inner.Answer.{measured}
 use Rattle.utf8.specs.Inner.Ascii.{AsciiRun}
-use Rattle.utf8_taking.specs.Inner.Taking.{NO-ASCII, PAIR, Room, Behind, Beyond, Taken, Took}
+use Rattle.utf8_taking.specs.Inner.Taking.{NO-ASCII, AHEAD, Room, Behind, Beyond, Twos, Put, Taken, Took}
 use Rattle.utf8.proofs.Laws.Text.{past, from-start, from-end, is-whole, is-broken}
 use Rattle.utf8.proofs.Laws.Ascii.{run-text}
 use Rattle.utf8.proofs.Laws.Going.{goes-on, fits, run-length}
@@ -174,9 +174,6 @@ module _ (bytes : List ℕ) where
     pub place-behind : (k p : ℕ) → i + k < length bytes → n + k < length (set out n p)
     place-behind k p h = omega (arith, q .places, h, length-set out n p)
 
-    pub place-third : (p z s : ℕ) → s ≤ 1 → i + PAIR ≤ length bytes → n + 1 + s < length (set (set out n p) (n + 1) z)
-    place-third p z s k h = omega (arith, q .places, h, k, length-set out n p, length-set (set out n p) (n + 1) z)
-
     here : Taken bytes out out i n i n
     here = taken-none out i n (omega (arith, q .left))
 
@@ -200,47 +197,71 @@ module _ (bytes : List ℕ) where
         rw (g₁, g₂)
         (taken-over out _ i n (i + 3) (n + 1) a (taken-step (set out n a) (set out n a) i n i n t r 3 p (rw g₁ at e) (omega arith) .next)))
 
-    -- a sequence of two, and behind it an ASCII byte, or another with or without one; z and s are what is written there
-    module _ (p : ℕ) (e : stepAt bytes i ≡ got 2 p) (z : ℕ) where
-      first-two : Taken bytes out (set out n p) i n (i + 2) (n + 1)
-      first-two = taken-step out out i n i n here q 2 p e (omega arith) .next
+  -- ---- sequences of two that are looked at together, from the last to the first: those from j on that stand before `first` are such
+  pub record Backward (i first j : ℕ) : Type 0 where
+    pub few : first ≤ AHEAD
+    pub left : j ≤ AHEAD
+    pub each : (k : ℕ) → j ≤ k → k < first → stepAt bytes (i + 2 * k) ≡ two (byteAt bytes (i + 2 * k)) (byteAt bytes (i + 2 * k + 1))
 
-      both : stepAt bytes (i + 2) ≡ got 2 z → Taken bytes out (set (set out n p) (n + 1) z) i n (i + 2 + 2) (n + 1 + 1)
-      both g = taken-step out (set out n p) i n (i + 2) (n + 1) first-two q 2 z g (omega arith) .next
+  module _ (i : ℕ) where
+    pub backward-start : Backward i AHEAD AHEAD
+    backward-start = record { few = omega arith; left = omega arith; each = λ k a b. absurd (omega arith) }
 
-      pub taken-pair : (s f : ℕ) → Beyond (byteAt bytes (i + 2)) s → Beyond (byteAt bytes (i + 4)) f
-          → (NO-ASCII ≤ byteAt bytes (i + 2) → stepAt bytes (i + 2) ≡ got 2 z) → i + PAIR ≤ length bytes
-          → Taken bytes out (set (set (set out n p) (n + 1) z) (n + 1 + s) (byteAt bytes (i + 2 + 2 * s))) i n
-          (i + 3 + s + (s + 1 - f) / 2) (n + 2 + (s + 1 - f) / 2)
-      taken-pair s f b c g h =
-          let new = set (set out n p) (n + 1) z in
-          split (byteAt bytes (i + 2)) NO-ASCII
-          (λ k.
-          let w : s ≡ 0 = omega (arith, b .is, k) in
-          let w₁ : n + 1 + s ≡ n + 1 = omega (arith, w) in
-          let w₂ : i + 2 + 2 * s ≡ i + 2 = omega (arith, w) in
-          let w₃ : i + 3 + s + (s + 1 - f) / 2 ≡ i + 2 + 1 = omega (arith, w) in
-          let w₄ : n + 2 + (s + 1 - f) / 2 ≡ n + 1 + 1 = omega (arith, w) in
-          rw (w₁, w₂, w₃, w₄)
-          (taken-step out new i n (i + 2) (n + 1) (taken-aside _ _ _ _ _ _ first-two (n + 1) z (omega arith)) q 1 _
-          (at-one bytes (i + 2) (omega (arith, h)) k) (omega arith) .next))
-          (λ k.
-          let w : s ≡ 1 = omega (arith, b .is, b .small, k) in
-          let w₁ : n + 1 + s ≡ n + 1 + 1 = omega (arith, w) in
-          let w₂ : i + 2 + 2 * s ≡ i + 4 = omega (arith, w) in
-          split (byteAt bytes (i + 4)) NO-ASCII
-          (λ l.
-          let v : f ≡ 0 = omega (arith, c .is, l) in
-          let w₃ : i + 3 + s + (s + 1 - f) / 2 ≡ i + 4 + 1 = omega (arith, w, v) in
-          let w₄ : n + 2 + (s + 1 - f) / 2 ≡ n + 1 + 1 + 1 = omega (arith, w, v) in
-          let j : i + 2 + 2 ≡ i + 4 = omega arith in
-          rw (w₁, w₂, w₃, w₄)
-          (taken-step out new i n (i + 4) (n + 1 + 1) (rw j at (both (g k))) q 1 _ (at-one bytes (i + 4) (omega (arith, h)) l) (omega arith) .next))
-          (λ l.
-          let v : f ≡ 1 = omega (arith, c .is, c .small, l) in
-          let w₃ : i + 3 + s + (s + 1 - f) / 2 ≡ i + 2 + 2 = omega (arith, w, v) in
-          let w₄ : n + 2 + (s + 1 - f) / 2 ≡ n + 1 + 1 = omega (arith, w, v) in
-          rw (w₁, w₃, w₄) (taken-aside _ _ _ _ _ _ (both (g k)) (n + 1 + 1) _ (omega arith))))
+    module _ (first j : ℕ) (s : Backward i first j) (h : 0 < j) where
+      pub backward-stands : stepAt bytes (i + 2 * (j - 1)) ≡ two (byteAt bytes (i + 2 * (j - 1))) (byteAt bytes (i + 2 * (j - 1) + 1)) → Backward i first (j - 1)
+      backward-stands e =
+          record {
+            few = s .few;
+            left = omega (arith, s .left);
+            each = λ k a b. split k j (λ m. let q : k ≡ j - 1 = omega arith in rw q e) (λ m. s .each k m b);
+          }
+
+      pub backward-ends : Backward i (j - 1) (j - 1)
+      backward-ends = record { few = omega (arith, s .left); left = omega (arith, s .left); each = λ k a b. absurd (omega arith) }
+
+    pub backward-twos : (first j : ℕ) → Backward i first j → j ≡ 0 → Twos bytes i first
+    backward-twos first j s e = record { few = s .few; each = λ k b. s .each k (omega (arith, e)) b }
+
+  -- ---- what they are as code points: those of the first j that stand are taken
+  module _ (old : List ℕ) (i n : ℕ) where
+    pub Placed : List ℕ → ℕ → Type 0
+    Placed new j = (k : ℕ) → k ≤ j → Twos bytes i k → Taken bytes old new i n (i + 2 * k) (n + k)
+
+  pub placed-start : (out : List ℕ) (i n : ℕ) → i ≤ length bytes → Placed out i n out 0
+  unfolding Placed
+  placed-start out i n h k a t =
+      let q : k ≡ 0 = omega arith in
+      let q₁ : i + 2 * k ≡ i = omega (arith, q) in
+      let q₂ : n + k ≡ n = omega (arith, q) in
+      rw (q₁, q₂) (taken-none out i n h)
+
+  module _ (old new : List ℕ) (i n j : ℕ) (q : Room bytes old i n) (s : Placed old i n new j) where
+    pub placed-more : (p : ℕ) → p ≡ pointOfTwo (byteAt bytes (i + 2 * j)) (byteAt bytes (i + 2 * j + 1)) → Placed old i n (set new (n + j) p) (j + 1)
+    unfolding Placed
+    placed-more p e k a t =
+        split k (j + 1)
+        (λ m. taken-aside old new i n (i + 2 * k) (n + k) (s k (omega (arith, m)) t) (n + j) p (omega (arith, m)))
+        (λ m.
+        let w : k ≡ j + 1 = omega arith in
+        let w₁ : i + 2 * k ≡ i + 2 * j + 2 = omega (arith, w) in
+        let w₂ : n + k ≡ n + j + 1 = omega (arith, w) in
+        let u : Twos bytes i j = record { few = omega (arith, t .few, w); each = λ x y. t .each x (omega (arith, y, w)) } in
+        rw (w₁, w₂, e)
+        (taken-step old new i n (i + 2 * j) (n + j) (s j (omega arith) u) q 2 _ (t .each j (omega (arith, w))) (omega arith) .next))
+
+    pub placed-length : length new ≡ length old
+    unfolding Placed
+    placed-length = s 0 (omega arith) (record { few = omega arith; each = λ k b. absurd (omega arith) }) .same
+
+  pub placed-all : (old new : List ℕ) (i n j : ℕ) → Placed old i n new j → AHEAD ≤ j → Put bytes old new i n
+  unfolding Placed
+  placed-all old new i n j s h f t = s f (omega (arith, t .few)) t
+
+  -- an ASCII byte behind what is taken
+  pub taken-lone : (old new : List ℕ) (i n j m : ℕ) → Taken bytes old new i n j m → Behind bytes old i n → i < length bytes → j < length bytes
+      → byteAt bytes j < NO-ASCII → (p : ℕ) → p ≡ byteAt bytes j → Taken bytes old (set new m p) i n (j + 1) (m + 1)
+  taken-lone old new i n j m t q h k l p e =
+      rw e (taken-step old new i n j m t (record { left = h; places = q .places }) 1 _ (at-one bytes j k l) (omega arith) .next)
 
   module _ (i : ℕ) (h : i < length bytes) where
     -- where a loop ends at the place that it began at, no sequence stands there: j is where it ends

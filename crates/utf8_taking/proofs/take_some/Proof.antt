@@ -9,8 +9,8 @@ take-two-requires c κs = search needs
 
 returns-2 : tie.Need-returns-2
 returns-2 c =
-    let at-take-pairs = c .before .before in
-    took-on _ _ _ _ _ _ _ (at-take-pairs .before .before .before .before .take-two .ensures) _ _ _ (at-take-pairs .take-pairs .ensures)
+    let at-take-letters = c .before .before in
+    took-on _ _ _ _ _ _ _ (at-take-letters .before .before .before .before .take-two .ensures) _ _ _ (at-take-letters .take-letters .ensures)
 
 returns-3 : tie.Need-returns-3
 returns-3 c =

@@ -1,6 +1,6 @@
 -- Words of inner contracts, beside Text: `Room`, `Behind`, `Taken`, `Took`, the tests of one sequence and the numbers that lead it. No public promise rests on them.
 -- Assumes nothing.
-use Prim.Native.Nat.{ℕ, _+_, _/_, _≤_, _<_}
+use Prim.Native.Nat.{ℕ, _+_, _*_, _/_, _≤_, _<_}
 use mathlib.Core.Path.{_≡_}
 use mathlib.Core.Bool.{Bool, true}
 use mathlib.Core.List.{List, _++_}
@@ -19,10 +19,11 @@ LEADS-THREE = 0xE0
 abbrev pub LEADS-FOUR : ℕ
 LEADS-FOUR = 0xF0
 
--- bytes that a turn of two looks at, and of three
-abbrev pub PAIR : ℕ
-PAIR = 5
+-- sequences of two that are looked at together
+abbrev pub AHEAD : ℕ
+AHEAD = 8
 
+-- bytes that a turn of three looks at
 abbrev pub SPACED : ℕ
 SPACED = 4
 
@@ -41,12 +42,14 @@ pub record Beyond (a r : ℕ) : Type 0 where
   pub is : r ≡ a / 128
   pub small : r ≤ 1
 
--- where a test holds, a sequence of two stands at i, or an ASCII byte
+-- where a test holds, a sequence of two stands at i
 abbrev pub IfTwo : Bool → List ℕ → ℕ → Type 0
 IfTwo r bytes i = r ≡ true → stepAt bytes i ≡ two (byteAt bytes i) (byteAt bytes (i + 1))
 
-abbrev pub IfOneOrTwo : Bool → List ℕ → ℕ → Type 0
-IfOneOrTwo r bytes i = r ≡ true → NO-ASCII ≤ byteAt bytes i → stepAt bytes i ≡ two (byteAt bytes i) (byteAt bytes (i + 1))
+-- from i on f sequences of two stand one behind the other
+pub record Twos (bytes : List ℕ) (i f : ℕ) : Type 0 where
+  pub few : f ≤ AHEAD
+  pub each : (k : ℕ) → k < f → stepAt bytes (i + 2 * k) ≡ two (byteAt bytes (i + 2 * k)) (byteAt bytes (i + 2 * k + 1))
 
 -- the bytes from i up to j are `points`, which stand in new from n up to m, behind what stood in old
 pub record Taken (bytes old new : List ℕ) (i n j m : ℕ) : Type 0 where
@@ -62,3 +65,7 @@ pub record Taken (bytes old new : List ℕ) (i n j m : ℕ) : Type 0 where
 pub record Took (bytes old new : List ℕ) (i n j m : ℕ) : Type 0 where
   pub taken : Taken bytes old new i n j m
   pub none : j ≡ i → stepAt bytes i ≡ noRow
+
+-- as many sequences of two as stand from i on stand in new from n on
+abbrev pub Put : List ℕ → List ℕ → List ℕ → ℕ → ℕ → Type 0
+Put bytes old new i n = (f : ℕ) → Twos bytes i f → Taken bytes old new i n (i + 2 * f) (n + f)
