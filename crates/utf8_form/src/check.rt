@@ -1,24 +1,14 @@
 // What is known of a text before anything is written: whether it has scalar values only, where the first other number stands, and how many bytes
 // it takes. Two of the three look at the whole text without a way out, so that the compiler can look at several numbers at once.
-use base::limits::LAST_POINT;
-use base::limits::SURROGATE_FIRST;
-use base::limits::SURROGATE_LAST;
 use base::one;
+use utf8_table::has_form;
 ghost use mathlib.Core.Path.{_≡_};
 ghost use Prim.Native.Nat.{_≤_};
 ghost use lib.ListN.{length};
 ghost use Rattle.base.specs.Limits.{LONGEST-TEXT};
-ghost use Rattle.base.specs.Tests.{scalar};
 ghost use Rattle.utf8_table.specs.Encoding.{encodeAll, scalars};
 ghost use Rattle.utf8_write_meaning.specs.Answer.{illAt};
 ghost use Rattle.utf8_form.specs.Inner.Size.{Size};
-
-// Whether a number has a form in UTF-8: whether it is a scalar value.
-fn has_form(p: u32) -> bool
-    ensures { λ r. ⌜ r ≡ scalar p ⌝ }
-{
-    (p <= LAST_POINT) & !((SURROGATE_FIRST <= p) & (p <= SURROGATE_LAST))
-}
 
 // Whether a text has scalar values only.
 pub fn all_scalar(text: &[u32]) -> bool

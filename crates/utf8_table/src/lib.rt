@@ -1,11 +1,14 @@
 // One sequence of UTF-8: whether a well-formed one stands at a place, and its code point, by the first byte (the Unicode Standard, Tables
-// 3-6 and 3-7). The reader in utf8 goes from sequence to sequence.
+// 3-6 and 3-7); and which numbers have one. The reader in utf8 goes from sequence to sequence.
+use base::limits::LAST_POINT;
+use base::limits::SURROGATE_FIRST;
+use base::limits::SURROGATE_LAST;
 use base::pick;
 use base::wide;
 ghost use mathlib.Core.Path.{_≡_};
 ghost use Prim.Native.Nat.{_+_, _≤_, _<_};
 ghost use lib.ListN.{length};
-ghost use Rattle.base.specs.Tests.{within};
+ghost use Rattle.base.specs.Tests.{scalar, within};
 ghost use Rattle.utf8_table.specs.WellFormed.{byteAt, pointOfTwo, pointOfThree, pointOfFour};
 ghost use Rattle.utf8_table.specs.Inner.ByLead.{leadsTwo, leadsThree, leadsFour};
 
@@ -86,4 +89,11 @@ pub fn four_at(b: &[u8], i: usize) -> u32
         + wide(b[i + 1]) % 64 * 4096
         + wide(b[i + 2]) % 64 * 64
         + wide(b[i + 3]) % 64
+}
+
+// Whether a number has a form in UTF-8: whether it is a scalar value.
+pub fn has_form(p: u32) -> bool
+    ensures { λ r. ⌜ r ≡ scalar p ⌝ }
+{
+    (p <= LAST_POINT) & !((SURROGATE_FIRST <= p) & (p <= SURROGATE_LAST))
 }
