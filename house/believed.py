@@ -38,7 +38,7 @@ CALLS = {
 STATEMENTS = [
     ("md_meaning", "DemandThree", "demand-three"),  # demand 3
     ("md_meaning", "Counts", "counts-so"),  # 02 [7]: what the counts of an answer say of its ratios and of demand 3's fractions
-    ("utf8", "Read", "accepted-encodes"),  # the reader's text is the one whose encoding the bytes are
+    ("utf8_meaning", "Read", "accepted-encodes"),  # the reader's text is the one whose encoding the bytes are
     ("utf8_write_meaning", "RoundTrips", "written-bytes"),  # the bytes written are the encodings of the text, one after the other
     ("utf8_write_meaning", "RoundTrips", "written-read"),  # reading what was written gives the text
     ("utf8_write_meaning", "RoundTrips", "read-written"),  # writing what was read gives the bytes

@@ -4,7 +4,7 @@ ghost use mathlib.Core.Path.{_≡_};
 ghost use lib.ListN.{length};
 ghost use Rattle.base.specs.Counted.{lentAfter};
 ghost use Rattle.classes.specs.Check.{checked};
-ghost use Rattle.utf8.specs.Answer.{answer, outAfter};
+ghost use Rattle.utf8_meaning.specs.Answer.{answer, outAfter};
 ghost use Rattle.page_meaning.specs.Answer.{readAnswer, readInto, writeAnswer, writeInto};
 ghost use Rattle.md_meaning.specs.MessRatio.{messRatio, messRatioDefault};
 ghost use Rattle.md_utf8_meaning.specs.ScoreUtf8.{messRatioUtf8, messRatioUtf8Default};

@@ -2,8 +2,8 @@
 ghost use mathlib.Core.Path.{_≡_};
 ghost use Prim.Native.Nat.{_≤_};
 ghost use lib.ListN.{length};
-ghost use Rattle.utf8.specs.Text.{textOf};
-ghost use Rattle.utf8.specs.Inner.Readable.{Readable};
+ghost use Rattle.utf8_meaning.specs.Text.{textOf};
+ghost use Rattle.utf8_meaning.specs.Inner.Readable.{Readable};
 ghost use Rattle.md_reason_meaning.specs.Reason.{reasonAnswer, reasonInto};
 ghost use Rattle.md_reason_meaning.specs.ReasonUtf8.{utf8Answer, utf8Into};
 use crate::reason;

@@ -8,8 +8,8 @@ use lib.ListN.{length}
 use Rattle.base.specs.declared.Cause.{Cause}
 use Rattle.base.specs.Causes.{firstOf}
 use Rattle.base.specs.Counted.{lentAfter}
-use Rattle.utf8.specs.Text.{textOf}
-use Rattle.utf8.specs.Answer.{manyBytes, illFormed, manyPoints}
+use Rattle.utf8_meaning.specs.Text.{textOf}
+use Rattle.utf8_meaning.specs.Answer.{manyBytes, illFormed, manyPoints}
 use Rattle.md_reason_meaning.specs.declared.Reasoned.{Reasoned}
 use Rattle.md_reason_meaning.specs.Reason.{indexes, told, ofReason, reasonUnless}
 

@@ -7,8 +7,8 @@ use mathlib.Core.List.{List, _∷_}
 use lib.Ieee.{Float}
 use Rattle.base.specs.declared.Cause.{Cause}
 use Rattle.base.specs.Causes.{firstOf}
-use Rattle.utf8.specs.Text.{textOf}
-use Rattle.utf8.specs.Answer.{manyBytes, illFormed, manyPoints}
+use Rattle.utf8_meaning.specs.Text.{textOf}
+use Rattle.utf8_meaning.specs.Answer.{manyBytes, illFormed, manyPoints}
 use Rattle.md_meaning.specs.declared.Limit.the-variants.{Threshold}
 use Rattle.md_meaning.specs.declared.Scored.{Scored}
 use Rattle.md_meaning.specs.MessRatio.{DEFAULT-THRESHOLD, ofScoring, ofScoringDefault}

@@ -4,7 +4,7 @@ ghost use mathlib.Core.Path.{_≡_};
 ghost use Prim.Native.Nat.{_+_, _≤_};
 ghost use lib.ListN.{length};
 ghost use Rattle.base.specs.Put.{put};
-ghost use Rattle.utf8.specs.Inner.Ascii.{AsciiRun, asciiOn};
+ghost use Rattle.utf8_meaning.specs.Inner.Ascii.{AsciiRun, asciiOn};
 
 // Whether the eight bytes from i on are ASCII. Plain tests joined by &, of which the compiler makes one load and one test.
 fn eight_ascii(b: &[u8], i: usize) -> bool

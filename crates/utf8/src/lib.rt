@@ -12,6 +12,7 @@ use base::refusals::ILL_FORMED;
 use base::refusals::NO_ROOM;
 use base::refusals::TOO_LONG;
 use base::wide;
+use utf8_meaning::Measured;
 use utf8_table::four_at;
 use utf8_table::is_four;
 use utf8_table::is_three;
@@ -23,15 +24,9 @@ ghost use mathlib.Core.Path.{_≡_};
 ghost use Prim.Native.Nat.{_≤_};
 ghost use lib.ListN.{length};
 ghost use Rattle.base.specs.Put.{put};
-ghost use Rattle.utf8.specs.Text.{textOf, wellFormed};
-ghost use Rattle.utf8.specs.Inner.Answer.{measured, countUtf8};
-ghost use Rattle.utf8.specs.Answer.{answer, outAfter};
-
-// What bytes are: well-formed, with this many code points, or faulty from this place on.
-pub enum Measured {
-    Points(usize),
-    Fault(usize),
-}
+ghost use Rattle.utf8_meaning.specs.Text.{textOf, wellFormed};
+ghost use Rattle.utf8_meaning.specs.Inner.Answer.{measured, countUtf8};
+ghost use Rattle.utf8_meaning.specs.Answer.{answer, outAfter};
 
 // How many code points well-formed bytes have, or where the first fault is.
 pub fn measure(bytes: &[u8]) -> Measured

@@ -5,7 +5,7 @@ use base::Counted;
 use base::not_counted;
 use base::refusals::ILL_FORMED;
 use base::wide;
-use utf8::Measured;
+use utf8_meaning::Measured;
 use utf8::ascii::past_ascii;
 use utf8::ascii::widen;
 use utf8_table::four_at;
@@ -19,8 +19,8 @@ ghost use Prim.Native.Nat.{_+_, _*_, _≤_, _<_};
 ghost use lib.ListN.{length, take};
 ghost use Rattle.base.specs.Limits.{LONGEST-TEXT};
 ghost use Rattle.utf8_table.specs.WellFormed.{byteAt};
-ghost use Rattle.utf8.specs.Text.{textOf};
-ghost use Rattle.utf8.specs.Inner.Answer.{measured, countUtf8};
+ghost use Rattle.utf8_meaning.specs.Text.{textOf};
+ghost use Rattle.utf8_meaning.specs.Inner.Answer.{measured, countUtf8};
 ghost use Rattle.utf8_taking.specs.Inner.Taking.{NO-ASCII, LEADS-THREE, LEADS-FOUR, AHEAD, SPACED, Room, Behind, Taken, Took, Beyond, IfTwo, Twos, Put};
 
 // The first byte that is no ASCII, the first that leads two, the first that leads three and the first that leads four bytes.

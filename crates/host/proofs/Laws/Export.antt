@@ -17,7 +17,7 @@ use Rattle.classes.specs.declared.Found.the-variants.{Nothing}
 use Rattle.classes.specs.Lookup.{classOf, missing}
 use Rattle.classes.proofs.Laws.Lookup.{no-scalar}
 use Rattle.utf8_table.specs.Encoding.{encodeAll, scalars}
-use Rattle.utf8.specs.Answer as read
+use Rattle.utf8_meaning.specs.Answer as read
 use Rattle.utf8_write_meaning.specs.Answer as written
 use Rattle.utf8_write_meaning.proofs.Laws.Answer.{writes}
 use Rattle.utf8_write_meaning.proofs.Laws.RoundTrips.{written-read}

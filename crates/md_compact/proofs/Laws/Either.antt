@@ -19,10 +19,10 @@ use Rattle.base.specs.Limits.{LONGEST-TEXT}
 use Rattle.base.specs.Refusals.{TOO-LONG, NOT-FINITE, BAD-CLASSES}
 use Rattle.base.proofs.Laws.Causes.{first-on, first-refused, first-given, first-passed, first-front, first-past, first-free}
 use Rattle.base.proofs.Laws.Counted.{counted-refused, after-refused, not-counted}
-use Rattle.utf8.specs.Text.{textOf}
-use Rattle.utf8.specs.Answer as reading
-use Rattle.utf8.specs.Inner.Answer.{inBytes, unreadable, countUtf8}
-use Rattle.utf8.proofs.Laws.Answer.{counted-free}
+use Rattle.utf8_meaning.specs.Text.{textOf}
+use Rattle.utf8_meaning.specs.Answer as reading
+use Rattle.utf8_meaning.specs.Inner.Answer.{inBytes, unreadable, countUtf8}
+use Rattle.utf8_meaning.proofs.Laws.Answer.{counted-free}
 use Rattle.classes.specs.Check.{badClasses}
 use Rattle.classes.specs.Pairs.{badPairs}
 use Rattle.class_records.specs.Records.{goodTable}

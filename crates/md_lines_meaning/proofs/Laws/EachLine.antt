@@ -25,7 +25,7 @@ use Rattle.classes.specs.Inner.Tables.{Tables}
 use Rattle.classes.specs.Pairs.{badPairs}
 use Rattle.classes.proofs.Laws.Tables.{free-tables, tables-free}
 use Rattle.ratio.specs.Finite.{isFinite, notFinite, Finite}
-use Rattle.utf8.specs.Text.{textOf}
+use Rattle.utf8_meaning.specs.Text.{textOf}
 use Rattle.md_meaning.specs.declared.Score.{Score}
 use Rattle.md_meaning.specs.declared.Scored.the-variants.{Score as Told}
 use Rattle.md_meaning.specs.DemandThree.{Certain}

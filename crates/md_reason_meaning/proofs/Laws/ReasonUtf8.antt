@@ -9,9 +9,9 @@ use Rattle.base.specs.declared.Counted.the-variants.{Count, Refused as NotCount
 use Rattle.base.specs.declared.Refusal.{Refusal}
 use Rattle.base.proofs.Laws.Causes.{first-front, first-past}
 use Rattle.base.proofs.Laws.Counted.{not-counted, after-refused}
-use Rattle.utf8.specs.Text.{textOf}
-use Rattle.utf8.specs.Inner.Answer.{inBytes, unreadable, countUtf8}
-use Rattle.utf8.proofs.Laws.Answer.{counted-free}
+use Rattle.utf8_meaning.specs.Text.{textOf}
+use Rattle.utf8_meaning.specs.Inner.Answer.{inBytes, unreadable, countUtf8}
+use Rattle.utf8_meaning.proofs.Laws.Answer.{counted-free}
 use Rattle.md_reason_meaning.specs.declared.Reasoned.the-variants.{Refused as Untold}
 use Rattle.md_reason_meaning.specs.Reason.{indexes, ofReason, reasonUnless, reasonCauses, reasonAnswer, reasonInto}
 use Rattle.md_reason_meaning.specs.ReasonUtf8.{utf8Causes, utf8Answer, utf8Into}

@@ -4,7 +4,7 @@ use Prim.Native.Nat.{ℕ}
 use mathlib.Core.Path.{_≡_}
 use mathlib.Core.List.{List}
 use lib.Ieee.{Float}
-use Rattle.utf8.specs.Text.{textOf}
+use Rattle.utf8_meaning.specs.Text.{textOf}
 use Rattle.md_meaning.specs.declared.Score.{Score}
 use Rattle.md_meaning.specs.declared.Scored.the-variants.{Score as Told}
 use Rattle.md_utf8_meaning.specs.ScoreUtf8.{messRatioUtf8}

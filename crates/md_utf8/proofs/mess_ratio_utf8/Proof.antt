@@ -1,7 +1,7 @@
 -- Bytes that were counted are readable, and what passed the check is ready for the scan. Assumes nothing.
 use native.Mathlib.Omega.{arith}
 use mathlib.Core.Path.{sym, _∙_}
-use Rattle.utf8.proofs.Laws.Answer.{readable}
+use Rattle.utf8_meaning.proofs.Laws.Answer.{readable}
 use Rattle.md_meaning.proofs.Laws.MessRatio.{ratio-lent}
 use Rattle.md_utf8.proofs.Laws.Lendable.{lendable}
 use Rattle.md_utf8_meaning.proofs.Laws.ScoreUtf8.{unread, read}

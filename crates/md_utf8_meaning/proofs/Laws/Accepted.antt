@@ -11,11 +11,11 @@ use lib.ListN.{length}
 use Rattle.base.specs.declared.Cause.the-variants.{Allowed}
 use Rattle.base.proofs.Laws.Causes.{first-past, first-free}
 use Rattle.ratio.specs.Finite.{Finite}
-use Rattle.utf8.specs.Text.{textOf}
-use Rattle.utf8.specs.Answer.{manyBytes, illFormed, manyPoints}
-use Rattle.utf8.specs.Inner.Answer.{inBytes, unreadable}
-use Rattle.utf8.specs.Inner.Readable.{Readable}
-use Rattle.utf8.proofs.Laws.Answer.{free-readable, readable-free}
+use Rattle.utf8_meaning.specs.Text.{textOf}
+use Rattle.utf8_meaning.specs.Answer.{manyBytes, illFormed, manyPoints}
+use Rattle.utf8_meaning.specs.Inner.Answer.{inBytes, unreadable}
+use Rattle.utf8_meaning.specs.Inner.Readable.{Readable}
+use Rattle.utf8_meaning.proofs.Laws.Answer.{free-readable, readable-free}
 use Rattle.md_meaning.specs.declared.Limit.the-variants.{Threshold}
 use Rattle.md_meaning.specs.declared.Score.{Score}
 use Rattle.md_meaning.specs.declared.Scored.the-variants.{Score as Told}

@@ -15,10 +15,10 @@ use Rattle.base.specs.Put.{put}
 use Rattle.base.proofs.Laws.Causes.{first-front, first-past, first-free}
 use Rattle.base.proofs.Laws.Counted.{not-counted}
 use Rattle.base.proofs.Laws.Put.{put-first}
-use Rattle.utf8.specs.Text.{textOf}
-use Rattle.utf8.specs.Answer.{manyBytes, illFormed, manyPoints}
-use Rattle.utf8.specs.Inner.Answer.{inBytes, unreadable, countUtf8}
-use Rattle.utf8.proofs.Laws.Answer.{counted-free}
+use Rattle.utf8_meaning.specs.Text.{textOf}
+use Rattle.utf8_meaning.specs.Answer.{manyBytes, illFormed, manyPoints}
+use Rattle.utf8_meaning.specs.Inner.Answer.{inBytes, unreadable, countUtf8}
+use Rattle.utf8_meaning.proofs.Laws.Answer.{counted-free}
 use Rattle.md_meaning.specs.declared.Limit.the-variants.{Threshold}
 use Rattle.md_meaning.specs.declared.Scored.{Scored}
 use Rattle.md_meaning.specs.declared.Scored.the-variants.{Refused}

@@ -8,15 +8,15 @@ use lib.ListN.{length, take, drop, length-append}
 use Rattle.utf8_table.specs.WellFormed.{Step, noRow, byteAt, stepAt}
 use Rattle.utf8_table.specs.Inner.ByLead.{leadsTwo, leadsThree, leadsFour}
 use Rattle.utf8_table.proofs.Laws.Complete.{got}
-use Rattle.utf8.specs.declared.Measured.the-variants.{Points, Fault}
-use Rattle.utf8.specs.Text.{Reading, after, textOf, faultAt}
-use Rattle.utf8.specs.Inner.Text.{from}
-use Rattle.utf8.proofs.Laws.Text.{past, from-start, from-end, is-whole, is-broken}
-use Rattle.utf8.specs.Inner.Ascii.{AsciiRun}
-use Rattle.utf8.proofs.Laws.Ascii.{run-first, run-text}
-use Rattle.utf8.specs.Inner.Answer.{measured}
-use Rattle.utf8.proofs.Laws.Places.{yes, no, at-two, at-three, at-four}
-use Rattle.utf8.proofs.Laws.Going.{goes-on, fits, run-length}
+use Rattle.utf8_meaning.specs.declared.Measured.the-variants.{Points, Fault}
+use Rattle.utf8_meaning.specs.Text.{Reading, after, textOf, faultAt}
+use Rattle.utf8_meaning.specs.Inner.Text.{from}
+use Rattle.utf8_meaning.proofs.Laws.Text.{past, from-start, from-end, is-whole, is-broken}
+use Rattle.utf8_meaning.specs.Inner.Ascii.{AsciiRun}
+use Rattle.utf8_meaning.proofs.Laws.Ascii.{run-first, run-text}
+use Rattle.utf8_meaning.specs.Inner.Answer.{measured}
+use Rattle.utf8_meaning.proofs.Laws.Places.{yes, no, at-two, at-three, at-four}
+use Rattle.utf8_meaning.proofs.Laws.Going.{goes-on, fits, run-length}
 
 pub record Passed (bytes : List ℕ) (i n : ℕ) : Type 0 where
   pub here : i ≤ length bytes

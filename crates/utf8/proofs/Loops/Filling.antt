@@ -11,13 +11,13 @@ use Rattle.base.specs.Put.{put}
 use Rattle.base.proofs.Laws.Put.{put-length, put-back, put-first, put-all}
 use Rattle.utf8_table.specs.WellFormed.{pointOfTwo, pointOfThree, pointOfFour, byteAt, stepAt}
 use Rattle.utf8_table.proofs.Laws.Complete.{got}
-use Rattle.utf8.specs.Text.{Reading, after, textOf, wellFormed}
-use Rattle.utf8.specs.Inner.Text.{from}
-use Rattle.utf8.proofs.Laws.Text.{past, from-start, from-end, whole-is}
-use Rattle.utf8.specs.Inner.Ascii.{AsciiRun}
-use Rattle.utf8.proofs.Laws.Ascii.{run-text}
-use Rattle.utf8.proofs.Laws.Places.{at-one, some-two, some-three, some-four}
-use Rattle.utf8.proofs.Laws.Going.{goes-on, fits, run-length}
+use Rattle.utf8_meaning.specs.Text.{Reading, after, textOf, wellFormed}
+use Rattle.utf8_meaning.specs.Inner.Text.{from}
+use Rattle.utf8_meaning.proofs.Laws.Text.{past, from-start, from-end, whole-is}
+use Rattle.utf8_meaning.specs.Inner.Ascii.{AsciiRun}
+use Rattle.utf8_meaning.proofs.Laws.Ascii.{run-text}
+use Rattle.utf8_meaning.proofs.Laws.Places.{at-one, some-two, some-three, some-four}
+use Rattle.utf8_meaning.proofs.Laws.Going.{goes-on, fits, run-length}
 
 pub record Filling (bytes old out : List ℕ) (i n : ℕ) : Type 0 where
   pub here : i ≤ length bytes

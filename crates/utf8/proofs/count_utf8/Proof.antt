@@ -2,7 +2,7 @@
 use mathlib.Core.Path.{sym, _∙_}
 use native.Mathlib.Omega.{arith}
 use borrow.Author.Needs.{needs}
-use Rattle.utf8.proofs.Laws.Answer.{fault-small, over-bytes, ill-formed, over-points, counts}
+use Rattle.utf8_meaning.proofs.Laws.Answer.{fault-small, over-bytes, ill-formed, over-points, counts}
 use Rattle.utf8.proofs.count_utf8.Statement.{statement}
 use Rattle.utf8.proofs.count_utf8.Tie as tie
 

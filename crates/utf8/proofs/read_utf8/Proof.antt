@@ -2,7 +2,7 @@
 use mathlib.Core.Path.{sym, _∙_}
 use native.Mathlib.Omega.{arith}
 use borrow.Author.Needs.{needs}
-use Rattle.utf8.proofs.Laws.Answer.{readable, refuses, no-room, reads as all-read}
+use Rattle.utf8_meaning.proofs.Laws.Answer.{readable, refuses, no-room, reads as all-read}
 use Rattle.utf8.proofs.read_utf8.Statement.{statement}
 use Rattle.utf8.proofs.read_utf8.Tie as tie
 

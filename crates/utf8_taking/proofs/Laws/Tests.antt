@@ -11,7 +11,7 @@ use Rattle.base.proofs.Laws.Tests.{and-l, and-r, and-yes}
 use Rattle.utf8_table.specs.WellFormed.{two, byteAt, stepAt}
 use Rattle.utf8_table.specs.Inner.ByLead.{leadsTwo}
 use Rattle.utf8_table.proofs.Laws.ByLead.{continues-told}
-use Rattle.utf8.proofs.Laws.Places.{yes, at-two}
+use Rattle.utf8_meaning.proofs.Laws.Places.{yes, at-two}
 
 module _ (bytes : List ℕ) (i : ℕ) (h : i < length bytes) where
   -- by a first byte that leads two, and the two bits of one that continues

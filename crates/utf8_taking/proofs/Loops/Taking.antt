@@ -16,16 +16,16 @@ use Rattle.base.proofs.Laws.Tests.{and-l, split}
 use Rattle.utf8_table.specs.WellFormed.{Step, two, pointOfTwo, pointOfThree, pointOfFour, noRow, byteAt, continues, stepAt}
 use Rattle.utf8_table.specs.Inner.ByLead.{leadsTwo, leadsThree, leadsFour}
 use Rattle.utf8_table.proofs.Laws.Complete.{got}
-use Rattle.utf8.specs.declared.Measured.the-variants.{Points, Fault}
-use Rattle.utf8.specs.Text.{Reading, ended, after, reading, textOf, faultAt}
-use Rattle.utf8.specs.Inner.Text.{from}
-use Rattle.utf8.specs.Inner.Answer.{measured}
-use Rattle.utf8.specs.Inner.Ascii.{AsciiRun}
+use Rattle.utf8_meaning.specs.declared.Measured.the-variants.{Points, Fault}
+use Rattle.utf8_meaning.specs.Text.{Reading, ended, after, reading, textOf, faultAt}
+use Rattle.utf8_meaning.specs.Inner.Text.{from}
+use Rattle.utf8_meaning.specs.Inner.Answer.{measured}
+use Rattle.utf8_meaning.specs.Inner.Ascii.{AsciiRun}
 use Rattle.utf8_taking.specs.Inner.Taking.{NO-ASCII, AHEAD, Room, Behind, Beyond, Twos, Put, Taken, Took}
-use Rattle.utf8.proofs.Laws.Text.{past, from-start, from-end, is-whole, is-broken}
-use Rattle.utf8.proofs.Laws.Ascii.{run-text}
-use Rattle.utf8.proofs.Laws.Going.{goes-on, fits, run-length}
-use Rattle.utf8.proofs.Laws.Places.{yes, no, at-one, at-two, at-three, at-four}
+use Rattle.utf8_meaning.proofs.Laws.Text.{past, from-start, from-end, is-whole, is-broken}
+use Rattle.utf8_meaning.proofs.Laws.Ascii.{run-text}
+use Rattle.utf8_meaning.proofs.Laws.Going.{goes-on, fits, run-length}
+use Rattle.utf8_meaning.proofs.Laws.Places.{yes, no, at-one, at-two, at-three, at-four}
 
 -- one code point of k bytes more
 pub record Further (bytes old new : List ℕ) (i n j m k p : ℕ) : Type 0 where

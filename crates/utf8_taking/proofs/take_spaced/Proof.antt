@@ -3,7 +3,7 @@ use mathlib.Core.Path.{sym, _∙_}
 use native.Mathlib.Omega.{arith}
 use borrow.Author.Tests.{not-false}
 use borrow.Author.Needs.{needs}
-use Rattle.utf8.proofs.Laws.Places.{yes, at-three}
+use Rattle.utf8_meaning.proofs.Laws.Places.{yes, at-three}
 use Rattle.utf8_taking.proofs.Loops.Taking.{taken-none, taken-spaced, place-behind}
 use Rattle.utf8_taking.proofs.take_spaced.Statement.{statement}
 use Rattle.utf8_taking.proofs.take_spaced.Tie as tie

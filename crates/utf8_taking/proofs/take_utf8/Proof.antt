@@ -2,8 +2,8 @@
 use mathlib.Core.Path.{sym, _∙_}
 use native.Mathlib.Omega.{arith}
 use borrow.Author.Needs.{needs}
-use Rattle.utf8.proofs.Laws.Text.{text-few}
-use Rattle.utf8.proofs.Laws.Answer.{fault-small, points-are, ill-formed, counts}
+use Rattle.utf8_meaning.proofs.Laws.Text.{text-few}
+use Rattle.utf8_meaning.proofs.Laws.Answer.{fault-small, points-are, ill-formed, counts}
 use Rattle.utf8_taking.proofs.take_utf8.Statement.{statement}
 use Rattle.utf8_taking.proofs.take_utf8.Tie as tie
 

@@ -6,8 +6,8 @@ use mathlib.Core.Bool.{Bool, true}
 use mathlib.Core.List.{List, _++_}
 use lib.ListN.{length, take}
 use Rattle.utf8_table.specs.WellFormed.{two, noRow, byteAt, stepAt}
-use Rattle.utf8.specs.Text.{after}
-use Rattle.utf8.specs.Inner.Text.{from}
+use Rattle.utf8_meaning.specs.Text.{after}
+use Rattle.utf8_meaning.specs.Inner.Text.{from}
 
 -- the first byte that is no ASCII, the first that leads three and the first that leads four bytes
 abbrev pub NO-ASCII : ℕ

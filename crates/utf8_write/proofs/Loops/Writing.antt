@@ -12,8 +12,8 @@ use Rattle.base.proofs.Laws.Put.{put-length, put-back, put-all}
 use Rattle.base.proofs.Laws.Tests.{split}
 use Rattle.utf8_table.specs.Encoding.{encode, encodeAll, scalars}
 use Rattle.utf8_table.proofs.Laws.Encoding.{encode-1, encode-2, encode-3, encode-4, encode-size, scalar-top}
-use Rattle.utf8.specs.Inner.Ascii.{AsciiRun}
-use Rattle.utf8.proofs.Laws.Going.{run-length}
+use Rattle.utf8_meaning.specs.Inner.Ascii.{AsciiRun}
+use Rattle.utf8_meaning.proofs.Laws.Going.{run-length}
 use Rattle.utf8_form.specs.Inner.Below.{AllAscii}
 use Rattle.utf8_write.specs.Inner.Part.{Part}
 use Rattle.utf8_write_meaning.proofs.Laws.Encoded.{scalar-at, encoded-next, encoded-run, encoded-part}

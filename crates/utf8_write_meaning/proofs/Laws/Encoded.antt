@@ -14,7 +14,7 @@ use Rattle.base.specs.First.{first}
 use Rattle.base.specs.Tests.{scalar}
 use Rattle.base.proofs.Laws.First.{first-before, first-none, first-within}
 use Rattle.base.proofs.Laws.Tests.{by-bool, split, and-l, and-r}
-use Rattle.utf8.specs.Inner.Ascii.{AsciiRun}
+use Rattle.utf8_meaning.specs.Inner.Ascii.{AsciiRun}
 use Rattle.utf8_table.specs.Encoding.{encode, encodeAll, scalars}
 use Rattle.utf8_table.proofs.Laws.Encoding.{encode-1}
 use Rattle.utf8_write_meaning.specs.Answer.{illAt}

@@ -16,12 +16,12 @@ use Rattle.base.proofs.Laws.Causes.{first-free}
 use Rattle.base.proofs.Laws.Counted.{count-allowed, count-is, after-allowed}
 use Rattle.base.proofs.Laws.Put.{put-first}
 use Rattle.utf8_table.specs.Encoding.{encodeAll, scalars}
-use Rattle.utf8.specs.Inner.Readable.{Readable}
-use Rattle.utf8.specs.Text.{textOf}
-use Rattle.utf8.specs.Answer as read
-use Rattle.utf8.proofs.Laws.Answer as reading
-use Rattle.utf8.proofs.Laws.Encoded.{text-scalars, well-formed-encoded}
-use Rattle.utf8.proofs.Laws.Read.{encoded-accepted}
+use Rattle.utf8_meaning.specs.Inner.Readable.{Readable}
+use Rattle.utf8_meaning.specs.Text.{textOf}
+use Rattle.utf8_meaning.specs.Answer as read
+use Rattle.utf8_meaning.proofs.Laws.Answer as reading
+use Rattle.utf8_meaning.proofs.Laws.Encoded.{text-scalars, well-formed-encoded}
+use Rattle.utf8_meaning.proofs.Laws.Read.{encoded-accepted}
 use Rattle.utf8_write_meaning.specs.Answer.{answer, outAfter}
 use Rattle.utf8_write_meaning.proofs.Laws.Answer.{Ends, writes, Accepted, accepted}
 

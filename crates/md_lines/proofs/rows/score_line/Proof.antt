@@ -1,7 +1,7 @@
 -- A line that fits into the room is taken in one pass; another that was counted is readable, and the tables were checked before. Assumes nothing.
 use mathlib.Core.Path.{sym, _∙_}
 use native.Mathlib.Omega.{arith}
-use Rattle.utf8.proofs.Laws.Answer.{readable}
+use Rattle.utf8_meaning.proofs.Laws.Answer.{readable}
 use Rattle.md_utf8_meaning.proofs.Laws.ScoreUtf8.{unread, read}
 use borrow.Author.Needs.{needs}
 use Rattle.md_lines.proofs.rows.score_line.Statement.{statement}

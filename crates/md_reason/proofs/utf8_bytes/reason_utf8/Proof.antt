@@ -1,6 +1,6 @@
 -- Reading refuses first; bytes that were counted are readable. Assumes nothing.
 use mathlib.Core.Path.{sym, _∙_}
-use Rattle.utf8.proofs.Laws.Answer.{readable}
+use Rattle.utf8_meaning.proofs.Laws.Answer.{readable}
 use Rattle.md_reason_meaning.proofs.Laws.ReasonUtf8.{unread, unread-into, read, read-into}
 use borrow.Author.Needs.{needs}
 use Rattle.md_reason.proofs.utf8_bytes.reason_utf8.Statement.{statement}

@@ -2,8 +2,8 @@
 use mathlib.Core.Path.{sym, _∙_}
 use native.Mathlib.Omega.{arith}
 use lib.ListN.{length-take}
-use Rattle.utf8.proofs.Laws.Text.{text-few}
-use Rattle.utf8.proofs.Laws.Answer.{readable}
+use Rattle.utf8_meaning.proofs.Laws.Text.{text-few}
+use Rattle.utf8_meaning.proofs.Laws.Answer.{readable}
 use Rattle.md_utf8_meaning.proofs.Laws.ScoreUtf8.{unread, read}
 use Rattle.md_utf8.proofs.Laws.Lendable.{lendable-ready, lendable-scan}
 use borrow.Author.Needs.{needs}

@@ -1,7 +1,7 @@
 -- The tests joined are those of `asciiOn` at the byte and the seven after it. Assumes nothing.
 use mathlib.Core.Path.{refl}
 use borrow.Author.Needs.{needs}
-use Rattle.utf8.specs.Inner.Ascii.{asciiOn}
+use Rattle.utf8_meaning.specs.Inner.Ascii.{asciiOn}
 use Rattle.utf8.proofs.ascii.eight_ascii.Statement.{statement}
 use Rattle.utf8.proofs.ascii.eight_ascii.Tie as tie
 

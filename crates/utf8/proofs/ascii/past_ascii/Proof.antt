@@ -1,6 +1,6 @@
 -- One ASCII byte, then the eights, then the ones make one run. Assumes nothing.
 use borrow.Author.Needs.{needs}
-use Rattle.utf8.proofs.Laws.Ascii.{run-first, run-join}
+use Rattle.utf8_meaning.proofs.Laws.Ascii.{run-first, run-join}
 use Rattle.utf8.proofs.ascii.past_ascii.Statement.{statement}
 use Rattle.utf8.proofs.ascii.past_ascii.Tie as tie
 

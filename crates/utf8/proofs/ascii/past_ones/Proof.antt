@@ -2,8 +2,8 @@
 use Prim.Native.Nat.{_-_}
 use lib.ListN.{length}
 use borrow.Author.Needs.{needs}
-use Rattle.utf8.specs.Inner.Ascii.{AsciiRun}
-use Rattle.utf8.proofs.Laws.Ascii.{run-none, run-more}
+use Rattle.utf8_meaning.specs.Inner.Ascii.{AsciiRun}
+use Rattle.utf8_meaning.proofs.Laws.Ascii.{run-none, run-more}
 use Rattle.utf8.proofs.ascii.past_ones.Statement.{statement}
 use Rattle.utf8.proofs.ascii.past_ones.Tie as tie
 

@@ -5,8 +5,8 @@ use native.Mathlib.Omega.{arith}
 use lib.ListN.{length}
 use borrow.Author.Tests.{not-false}
 use borrow.Author.Needs.{needs}
-use Rattle.utf8.specs.Inner.Ascii.{AsciiRun}
-use Rattle.utf8.proofs.Laws.Ascii.{run-none, run-eight}
+use Rattle.utf8_meaning.specs.Inner.Ascii.{AsciiRun}
+use Rattle.utf8_meaning.proofs.Laws.Ascii.{run-none, run-eight}
 use Rattle.utf8_form.proofs.ascii.past_eights.Statement.{statement}
 use Rattle.utf8_form.proofs.ascii.past_eights.Tie as tie
 

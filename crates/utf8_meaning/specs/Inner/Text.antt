@@ -3,7 +3,7 @@
 use Prim.Native.Nat.{ℕ, _-_}
 use mathlib.Core.List.{List}
 use lib.ListN.{length}
-use Rattle.utf8.specs.Text.{Reading, steps}
+use Rattle.utf8_meaning.specs.Text.{Reading, steps}
 
 -- what is read from the place i on
 unfoldable pub from : List ℕ → ℕ → Reading

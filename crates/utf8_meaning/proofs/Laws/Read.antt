@@ -21,14 +21,14 @@ use Rattle.base.proofs.Laws.Causes.{never, first-free}
 use Rattle.base.proofs.Laws.Counted.{counted-allowed, count-allowed, count-is}
 use Rattle.utf8_table.specs.Encoding.{encodeAll, scalars}
 use Rattle.utf8_table.proofs.Laws.Encoding.{encode-size}
-use Rattle.utf8.specs.Inner.Readable.{Readable}
-use Rattle.utf8.specs.Text.{textOf, faultAt, wellFormed}
-use Rattle.utf8.proofs.Laws.Text.{fault-within, broken-is}
-use Rattle.utf8.proofs.Laws.Encoded.{text-scalars, fault-front, fault-longest, well-formed-encoded, encoded-text, encoded-well-formed}
-use Rattle.utf8.specs.Answer.{manyBytes, illFormed, manyPoints, noRoom, causes, answer}
-use Rattle.utf8.specs.Inner.Answer.{countUtf8}
-use Rattle.utf8.proofs.Laws.Answer.{free-readable, readable-free, Ends, reads}
-use Rattle.utf8.specs.Read.{Encodes}
+use Rattle.utf8_meaning.specs.Inner.Readable.{Readable}
+use Rattle.utf8_meaning.specs.Text.{textOf, faultAt, wellFormed}
+use Rattle.utf8_meaning.proofs.Laws.Text.{fault-within, broken-is}
+use Rattle.utf8_meaning.proofs.Laws.Encoded.{text-scalars, fault-front, fault-longest, well-formed-encoded, encoded-text, encoded-well-formed}
+use Rattle.utf8_meaning.specs.Answer.{manyBytes, illFormed, manyPoints, noRoom, causes, answer}
+use Rattle.utf8_meaning.specs.Inner.Answer.{countUtf8}
+use Rattle.utf8_meaning.proofs.Laws.Answer.{free-readable, readable-free, Ends, reads}
+use Rattle.utf8_meaning.specs.Read.{Encodes}
 
 pub accepted-encodes : (bytes : List ℕ) (room n : ℕ) → answer bytes room ≡ Count n → Encodes bytes n
 unfolding answer causes

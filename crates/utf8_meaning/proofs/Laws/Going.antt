@@ -7,10 +7,10 @@ use lib.ListN.{length, take, drop, length-drop}
 use lib.Seq.{length-take-le}
 use Rattle.utf8_table.specs.WellFormed.{stepAt}
 use Rattle.utf8_table.proofs.Laws.Complete.{got}
-use Rattle.utf8.specs.Text.{after}
-use Rattle.utf8.specs.Inner.Text.{from}
-use Rattle.utf8.proofs.Laws.Text.{from-step, step-fits}
-use Rattle.utf8.specs.Inner.Ascii.{AsciiRun}
+use Rattle.utf8_meaning.specs.Text.{after}
+use Rattle.utf8_meaning.specs.Inner.Text.{from}
+use Rattle.utf8_meaning.proofs.Laws.Text.{from-step, step-fits}
+use Rattle.utf8_meaning.specs.Inner.Ascii.{AsciiRun}
 
 -- a place where a code point stands is followed by the rest of the reading
 pub goes-on : (bytes : List ℕ) (i k p : ℕ) → stepAt bytes i ≡ got k p → 1 ≤ k → from bytes i ≡ after (p ∷ []) (from bytes (i + k))

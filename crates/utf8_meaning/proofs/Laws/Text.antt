@@ -12,8 +12,8 @@ use borrow.Author.Tests.{lt-ltb, le-ltb, eqb-true, eqb-false, eq-eqb, ne-eqb}
 use Rattle.base.proofs.Laws.Tests.{by-test, cond-same, split}
 use Rattle.utf8_table.specs.WellFormed.{row, byteAt, stepAt}
 use Rattle.utf8_table.proofs.Laws.Sound.{Sound, row-sound}
-use Rattle.utf8.specs.Text.{Reading, ended, after, steps, reading, textOf, faultAt, wellFormed}
-use Rattle.utf8.specs.Inner.Text.{from}
+use Rattle.utf8_meaning.specs.Text.{Reading, ended, after, steps, reading, textOf, faultAt, wellFormed}
+use Rattle.utf8_meaning.specs.Inner.Text.{from}
 
 -- one code point before a reading
 abbrev more : ℕ → Reading → Reading

@@ -6,7 +6,7 @@ use mathlib.Core.Bool.{true}
 use mathlib.Core.List.{List}
 use lib.ListN.{length}
 use Rattle.base.specs.Limits.{LONGEST-BYTES, LONGEST-TEXT}
-use Rattle.utf8.specs.Text.{textOf, wellFormed}
+use Rattle.utf8_meaning.specs.Text.{textOf, wellFormed}
 
 -- they are the text of n code points
 pub record Readable (bytes : List ℕ) (n : ℕ) : Type 0 where

@@ -18,9 +18,9 @@ use Rattle.utf8_table.specs.Encoding.{encode, encodeAll, scalars}
 use Rattle.utf8_table.proofs.Laws.Encoding.{encode-size}
 use Rattle.utf8_table.specs.WellFormed.{stepAt}
 use Rattle.utf8_table.proofs.Laws.Complete.{got, row-complete}
-use Rattle.utf8.specs.Text.{Reading, after, steps, reading, textOf, faultAt, wellFormed}
-use Rattle.utf8.specs.Inner.Text.{from}
-use Rattle.utf8.proofs.Laws.Text.{past, at-row, step-sound, step-fits, from-start, from-end, from-step, from-after, whole-is, is-whole}
+use Rattle.utf8_meaning.specs.Text.{Reading, after, steps, reading, textOf, faultAt, wellFormed}
+use Rattle.utf8_meaning.specs.Inner.Text.{from}
+use Rattle.utf8_meaning.proofs.Laws.Text.{past, at-row, step-sound, step-fits, from-start, from-end, from-step, from-after, whole-is, is-whole}
 
 -- up to four bytes from the place i on
 next : (l : List ℕ) (i j : ℕ) → suc i ≡ j → i < length l → drop i l ≡ getD l i 0 ∷ drop j l

@@ -8,7 +8,7 @@ use lib.ListN.{length}
 use Rattle.utf8_table.specs.WellFormed.{Step, one, two, three, four, noRow, byteAt, stepAt}
 use Rattle.utf8_table.specs.Inner.ByLead.{leadsTwo, leadsThree, leadsFour}
 use Rattle.utf8_table.proofs.Laws.ByLead.{row-one, row-two, row-three, row-four}
-use Rattle.utf8.proofs.Laws.Text.{at-row}
+use Rattle.utf8_meaning.proofs.Laws.Text.{at-row}
 
 -- what a test decides, where it holds, where it does not, and where something is known to stand
 pub yes : (t : Bool) {x s : Step} → x ≡ cond t s noRow → t ≡ true → x ≡ s

@@ -13,10 +13,10 @@ use borrow.Author.Tests.{ltb-true}
 use Rattle.base.proofs.Laws.Tests.{split, and-l, and-r}
 use Rattle.utf8_table.specs.WellFormed.{one, byteAt, stepAt}
 use Rattle.utf8_table.proofs.Laws.ByLead.{row-one}
-use Rattle.utf8.specs.Text.{after}
-use Rattle.utf8.specs.Inner.Text.{from}
-use Rattle.utf8.proofs.Laws.Text.{at-row, from-step}
-use Rattle.utf8.specs.Inner.Ascii.{AsciiRun, isAscii, asciiOn}
+use Rattle.utf8_meaning.specs.Text.{after}
+use Rattle.utf8_meaning.specs.Inner.Text.{from}
+use Rattle.utf8_meaning.proofs.Laws.Text.{at-row, from-step}
+use Rattle.utf8_meaning.specs.Inner.Ascii.{AsciiRun, isAscii, asciiOn}
 
 on-each : (bytes : List ℕ) (i k : ℕ) → asciiOn bytes i k ≡ true → (j : ℕ) → i ≤ j → j ≤ i + k → byteAt bytes j < 0x80
 unfolding asciiOn

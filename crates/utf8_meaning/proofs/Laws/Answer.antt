@@ -18,12 +18,12 @@ use Rattle.base.specs.Put.{put}
 use Rattle.base.specs.Refusals.{TOO-LONG, ILL-FORMED, NO-ROOM}
 use Rattle.base.proofs.Laws.Causes.{first-given, first-passed, first-free, given-free, free-given, free-first, first-front, first-past}
 use Rattle.base.proofs.Laws.Counted.{counted-allowed, counted-refused, counted-at, count-allowed, count-is, not-counted, after-allowed, after-refused}
-use Rattle.utf8.specs.declared.Measured.the-variants.{Points, Fault}
-use Rattle.utf8.specs.Inner.Readable.{Readable}
-use Rattle.utf8.specs.Text.{textOf, faultAt, wellFormed}
-use Rattle.utf8.proofs.Laws.Text.{fault-within}
-use Rattle.utf8.specs.Inner.Answer.{measured, inBytes, unreadable, countUtf8}
-use Rattle.utf8.specs.Answer.{manyBytes, illFormed, manyPoints, noRoom, causes, answer, outAfter}
+use Rattle.utf8_meaning.specs.declared.Measured.the-variants.{Points, Fault}
+use Rattle.utf8_meaning.specs.Inner.Readable.{Readable}
+use Rattle.utf8_meaning.specs.Text.{textOf, faultAt, wellFormed}
+use Rattle.utf8_meaning.proofs.Laws.Text.{fault-within}
+use Rattle.utf8_meaning.specs.Inner.Answer.{measured, inBytes, unreadable, countUtf8}
+use Rattle.utf8_meaning.specs.Answer.{manyBytes, illFormed, manyPoints, noRoom, causes, answer, outAfter}
 
 -- which of the two was picked
 fault-picked : (t : Bool) (n f p : ℕ) → Fault p ≡ cond t (Points n) (Fault f) → (t ≡ false) × (p ≡ f)

@@ -6,7 +6,7 @@ use mathlib.Core.List.{List}
 use mathlib.Core.Bool.{true}
 use lib.ListN.{length}
 use Rattle.utf8_table.specs.Encoding.{encodeAll, scalars}
-use Rattle.utf8.specs.Text.{textOf}
+use Rattle.utf8_meaning.specs.Text.{textOf}
 
 -- what an accepted reading says of the bytes
 pub record Encodes (bytes : List ℕ) (n : ℕ) : Type 0 where

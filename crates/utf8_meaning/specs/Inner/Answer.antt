@@ -8,10 +8,10 @@ use Rattle.base.specs.declared.Cause.{Cause}
 use Rattle.base.specs.declared.Counted.{Counted}
 use Rattle.base.specs.Causes.{firstOf}
 use Rattle.base.specs.Counted.{countUnless}
-use Rattle.utf8.specs.declared.Measured.{Measured}
-use Rattle.utf8.specs.declared.Measured.the-variants.{Points, Fault}
-use Rattle.utf8.specs.Text.{textOf, faultAt, wellFormed}
-use Rattle.utf8.specs.Answer.{manyBytes, illFormed, manyPoints}
+use Rattle.utf8_meaning.specs.declared.Measured.{Measured}
+use Rattle.utf8_meaning.specs.declared.Measured.the-variants.{Points, Fault}
+use Rattle.utf8_meaning.specs.Text.{textOf, faultAt, wellFormed}
+use Rattle.utf8_meaning.specs.Answer.{manyBytes, illFormed, manyPoints}
 
 -- the number of code points of well-formed bytes, or the place of the first fault
 unfoldable pub measured : List ℕ → Measured

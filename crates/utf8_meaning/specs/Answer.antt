@@ -12,7 +12,7 @@ use Rattle.base.specs.Causes.{given, firstOf}
 use Rattle.base.specs.Counted.{countUnless, lentAfter}
 use Rattle.base.specs.Limits.{LONGEST-BYTES, LONGEST-TEXT}
 use Rattle.base.specs.Refusals.{TOO-LONG, ILL-FORMED, NO-ROOM}
-use Rattle.utf8.specs.Text.{textOf, faultAt, wellFormed}
+use Rattle.utf8_meaning.specs.Text.{textOf, faultAt, wellFormed}
 
 -- 1: "over 262,144 bytes"
 unfoldable pub manyBytes : List ℕ → Cause
