@@ -6,18 +6,21 @@ ghost use Rattle.md_rest.specs.Inner.Rest.{Past};
 ghost use Rattle.md_runs.specs.Inner.Ahead.{AHEAD, Unless};
 use md_rest::rest::past_within;
 use md_text::nearer;
+use std::num::wrapping_sub_u32;
 
 // Characters that are looked at together.
 const AHEAD: usize = 8;
 
-// Past all of them where p lies from low to high, else j.
+// Past all of them where p lies from low to high, else j. What p has over low, wrapped, so that one comparison tells: of two, each would be a choice
+// that waits for the one before it.
 fn unless_within(p: u32, low: u32, high: u32, j: usize) -> usize
+    requires { ⌜ low ≤ high ⌝ }
     ensures { λ r. ⌜ Unless low high p j r ⌝ }
 {
-    if (low <= p) & (p <= high) {
-        return AHEAD;
+    if high - low < wrapping_sub_u32(p, low) {
+        return j;
     }
-    j
+    AHEAD
 }
 
 // Past the characters from `from` on that lie from low to high, as far as those that are looked at together.
@@ -25,6 +28,9 @@ fn past_ahead(text: &[u32], from: usize, low: u32, high: u32) -> usize
     requires { ⌜ from + AHEAD ≤ length (now text) ⌝ }
     ensures { λ r. ⌜ Past (now (text .entry)) low high from (from + AHEAD) r ⌝ }
 {
+    if high < low {
+        return from;
+    }
     let mut first = AHEAD;
     let mut j = 0;
     while j < AHEAD {

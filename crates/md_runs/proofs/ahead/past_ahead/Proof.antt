@@ -1,6 +1,7 @@
 -- Each turn looks at one more; the first that lies outside is kept. Assumes nothing.
 use Prim.Native.Nat.{_-_}
 use native.Mathlib.Omega.{arith}
+use Rattle.md_rest.proofs.Loops.Rest.{past-start}
 use Rattle.md_runs.specs.Inner.Ahead.{AHEAD}
 use Rattle.md_runs.proofs.Laws.Ahead.{Looked, looked-start, looked-more, looked-past}
 use borrow.Author.Needs.{needs}
@@ -12,6 +13,9 @@ Inv-loop text from low high first₀ j₀ first j = Looked text low high from fi
 
 abbrev μ-loop : tie.MeasureT-loop
 μ-loop text from low high first₀ j₀ first j = AHEAD - j
+
+returns : tie.Need-returns Inv-loop μ-loop
+returns c = past-start _ _ _ _ _ (omega arith)
 
 loop-holds : tie.Need-loop-holds Inv-loop μ-loop
 loop-holds c = looked-start _ _ _ _
@@ -27,12 +31,12 @@ shared-slice-read-unless-within c = search needs
 
 loop-again : tie.Need-loop-again Inv-loop μ-loop
 loop-again c =
-    let asked = c .before .before .before .before .before .before .pre in
+    let asked = c .before .before .before .before .before .before .before .pre in
     let tested = c .before .before .before .loop-test .taken in
     looked-more _ _ _ _ _ _ (c .before .before .before .before .loop .inv) (omega (arith, asked, tested)) _ (c .before .unless-within .ensures) _ (c .nearer .ensures)
 
-returns : tie.Need-returns Inv-loop μ-loop
-returns c = looked-past _ _ _ _ _ _ (c .before .loop .inv) (c .loop-test .left)
+returns-2 : tie.Need-returns-2 Inv-loop μ-loop
+returns-2 c = looked-past _ _ _ _ _ _ (c .before .loop .inv) (c .loop-test .left)
 
 pub past-ahead-spec : {M : Type 1} → statement M
 past-ahead-spec =
@@ -40,6 +44,7 @@ past-ahead-spec =
     (tie.spec
     Inv-loop
     μ-loop
+    returns
     loop-holds
     add-unless-within
     mul-unless-within
@@ -50,4 +55,4 @@ past-ahead-spec =
     (λ c. search needs)
     loop-again
     (λ c. search needs)
-    returns)
+    returns-2)
