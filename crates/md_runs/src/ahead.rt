@@ -73,7 +73,8 @@ pub fn letters_end(text: &[u32], i: usize, low: u32, high: u32) -> usize
     if text.len() - from < AHEAD {
         return past_within(text, from, end, low, high);
     }
-    past_looked(text, from, past_ahead(text, from, low, high), end, low, high)
+    let next = past_ahead(text, from, low, high);
+    past_looked(text, from, next, end, low, high)
 }
 
 // The same for ASCII's lower-case letters: a function of its own, since one that is called from two places is not laid open in either, and its bounds are no constants then.
