@@ -7,18 +7,21 @@ use classes::is_suspicious;
 use md_eight::Detectors;
 use md_eight::runs::BASIC_LATIN;
 use md_runs::Fed;
-use md_runs::ahead::LOWER_FIRST;
-use md_runs::ahead::LOWER_LAST;
-use md_runs::ahead::lower_end;
 use md_runs::before_space;
 use md_runs::fed_word;
+use md_runs::run_end;
+
+// ASCII's lower-case letters.
+const LOWER_FIRST: u32 = 0x61;
+
+const LOWER_LAST: u32 = 0x7A;
 
 // ASCII's lower-case letters from i on, and the space behind them: most of a text in English goes this way, with the space in line. `classes` is read by the contract alone.
 fn fed_lower(s: Detectors, c: Class, text: &[u32], i: usize, classes: &[u8], pairs: &[u8]) -> Fed
     requires { ⌜ Before (now classes) (now pairs) (now text) s c i × (LOWER-FIRST ≤ c .point) × (c .point ≤ LOWER-LAST) ⌝ }
     ensures { λ r. ⌜ Advanced (now (classes .entry)) (now (pairs .entry)) (now (text .entry)) i r ⌝ }
 {
-    let next = lower_end(text, i);
+    let next = run_end(text, i, LOWER_FIRST, LOWER_LAST);
     let suspicious = is_suspicious(pairs, s.last_range(), BASIC_LATIN);
     let again = is_suspicious(pairs, BASIC_LATIN, BASIC_LATIN);
     let t = s.lower_run((next - i) as u32, text[next - 1], suspicious, again);

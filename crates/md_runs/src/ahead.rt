@@ -1,24 +1,15 @@
 // Where a run of letters with case ends. Their words are as long as they happen to be, so that a processor that asks letter by letter foresees the end
 // wrongly; here eight are looked at with no branch among them.
-ghost use Prim.Native.Nat.{_+_, _≤_, _<_};
+ghost use Prim.Native.Nat.{_+_, _≤_};
 ghost use lib.ListN.{length};
-ghost use Rattle.base.specs.Limits.{LONGEST-TEXT};
-ghost use Rattle.md_eight.specs.Inner.Runs.{LOWER-FIRST, LOWER-LAST};
 ghost use Rattle.md_rest.specs.Inner.Rest.{Past};
 ghost use Rattle.md_runs.specs.Inner.Ahead.{AHEAD, Unless};
-ghost use Rattle.md_runs.specs.Inner.Runs.{Run};
 use md_rest::rest::past_within;
 use md_text::nearer;
-use md_text::piece_end;
 use std::num::wrapping_sub_u32;
 
 // Characters that are looked at together.
 const AHEAD: usize = 8;
-
-// ASCII's lower-case letters.
-pub const LOWER_FIRST: u32 = 0x61;
-
-pub const LOWER_LAST: u32 = 0x7A;
 
 // Past all of them where p lies from low to high, else j. What p has over low, wrapped, so that one comparison tells: of two, each would be a choice
 // that waits for the one before it.
@@ -49,11 +40,15 @@ fn past_ahead(text: &[u32], from: usize, low: u32, high: u32) -> usize
     from + first
 }
 
-// The same as far as `end`, where the first of them have been looked at and reach to `next`: those behind them one by one.
-fn past_looked(text: &[u32], from: usize, next: usize, end: usize, low: u32, high: u32) -> usize
-    requires { ⌜ Past (now text) low high from (from + AHEAD) next × (from ≤ end) × (end ≤ length (now text)) ⌝ }
+// The same as far as `end`, where the first of them do not reach it one by one.
+pub fn past_letters(text: &[u32], from: usize, end: usize, low: u32, high: u32) -> usize
+    requires { ⌜ (from ≤ end) × (end ≤ length (now text)) ⌝ }
     ensures { λ r. ⌜ Past (now (text .entry)) low high from end r ⌝ }
 {
+    if text.len() - from < AHEAD {
+        return past_within(text, from, end, low, high);
+    }
+    let next = past_ahead(text, from, low, high);
     if end <= next {
         return end;
     }
@@ -61,32 +56,4 @@ fn past_looked(text: &[u32], from: usize, next: usize, end: usize, low: u32, hig
         return next;
     }
     past_within(text, next, end, low, high)
-}
-
-// Where the letters with case from low to high behind the one at i end, or the piece of the text that it stands in.
-pub fn letters_end(text: &[u32], i: usize, low: u32, high: u32) -> usize
-    requires { ⌜ (i < length (now text)) × (length (now text) ≤ LONGEST-TEXT) ⌝ }
-    ensures { λ r. ⌜ Run (now (text .entry)) low high i r ⌝ }
-{
-    let from = i + 1;
-    let end = piece_end(text.len(), i);
-    if text.len() - from < AHEAD {
-        return past_within(text, from, end, low, high);
-    }
-    let next = past_ahead(text, from, low, high);
-    past_looked(text, from, next, end, low, high)
-}
-
-// The same for ASCII's lower-case letters: a function of its own, since one that is called from two places is not laid open in either, and its bounds are no constants then.
-pub fn lower_end(text: &[u32], i: usize) -> usize
-    requires { ⌜ (i < length (now text)) × (length (now text) ≤ LONGEST-TEXT) ⌝ }
-    ensures { λ r. ⌜ Run (now (text .entry)) LOWER-FIRST LOWER-LAST i r ⌝ }
-{
-    let from = i + 1;
-    let end = piece_end(text.len(), i);
-    if text.len() - from < AHEAD {
-        return past_within(text, from, end, LOWER_FIRST, LOWER_LAST);
-    }
-    let next = past_ahead(text, from, LOWER_FIRST, LOWER_LAST);
-    past_looked(text, from, next, end, LOWER_FIRST, LOWER_LAST)
 }

@@ -10,7 +10,7 @@ ghost use Rattle.classes.specs.Lookup.{orSelf};
 ghost use Rattle.md_eight.specs.Inner.Runs as kinds;
 ghost use Rattle.md_meaning.specs.Text.{total};
 ghost use Rattle.md_runs.specs.Inner.Runs.{Low, High, AlikeOf, Run, Before, Lent, HeldAt, Spaced, Advanced};
-use ahead::letters_end;
+use ahead::past_letters;
 use base::limits::BUILTIN_END;
 use class_records::record_at;
 use class_records::search::first_of;
@@ -29,7 +29,7 @@ use md_text::at_checkpoint;
 use md_text::fed;
 use md_text::piece_end;
 
-pub mod ahead;
+mod ahead;
 
 // What a step of the scan comes to: the state, and the index of the character that comes next.
 pub struct Fed {
@@ -45,11 +45,19 @@ pub struct Alike {
 }
 
 // Where the characters from low to high behind the one at i end, or the piece of the text that it stands in.
-fn run_end(text: &[u32], i: usize, low: u32, high: u32) -> usize
+pub fn run_end(text: &[u32], i: usize, low: u32, high: u32) -> usize
     requires { ⌜ (i < length (now text)) × (length (now text) ≤ LONGEST-TEXT) ⌝ }
     ensures { λ r. ⌜ Run (now (text .entry)) low high i r ⌝ }
 {
     past_within(text, i + 1, piece_end(text.len(), i), low, high)
+}
+
+// The same for letters with case.
+fn letters_end(text: &[u32], i: usize, low: u32, high: u32) -> usize
+    requires { ⌜ (i < length (now text)) × (length (now text) ≤ LONGEST-TEXT) ⌝ }
+    ensures { λ r. ⌜ Run (now (text .entry)) low high i r ⌝ }
+{
+    past_letters(text, i + 1, piece_end(text.len(), i), low, high)
 }
 
 // The first of a record, or the code point past the wrong stops where p stands past them.

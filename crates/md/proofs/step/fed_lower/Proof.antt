@@ -5,8 +5,8 @@ use borrow.Author.Needs.{needs}
 use Rattle.md.proofs.step.fed_lower.Statement.{statement}
 use Rattle.md.proofs.step.fed_lower.Tie as tie
 
-lower-end-requires : tie.Need-lower-end-requires
-lower-end-requires c κs =
+run-end-requires : tie.Need-run-end-requires
+run-end-requires c κs =
     let asked = c .before .before .before .pre in
     (lower-inside _ _ _ _ _ _ (asked .0) (asked .1) (asked .2), asked .0 .short)
 
@@ -18,7 +18,7 @@ is-suspicious-requires c κs =
 lower-run-requires : tie.Need-lower-run-requires
 lower-run-requires c κs =
     let asked = c .before .before .before .before .before .before .before .before .pre in
-    let ended = c .before .before .before .before .lower-end in (
+    let ended = c .before .before .before .before .run-end in (
       before-room _ _ _ _ _ _ (asked .0),
       omega (arith, ended .ensures .begins),
       omega (arith, ended .ensures .ends, asked .0 .short),
@@ -26,14 +26,14 @@ lower-run-requires c κs =
 
 before-space-requires : tie.Need-before-space-requires
 before-space-requires c κs =
-    let ended = c .before .before .before .before .before .lower-end in
+    let ended = c .before .before .before .before .before .run-end in
     omega (arith, ended .ensures .begins)
 
 space-requires : tie.Need-space-requires
 space-requires c κs =
     let ran = c .before .before in
     let told = ran .before .before in
-    let ended = told .before .before .before .lower-end in
+    let ended = told .before .before .before .run-end in
     let asked = told .before .before .before .before .before .before .before .pre in
     let step = lower-step _ _ _ _ _ _ (asked .0) (asked .1) (asked .2) _ (ended .ensures) _ _ _ (told .before .before .last-range .ensures)
     (told .before .is-suspicious .ensures) (told .is-suspicious2 .ensures) _ (ran .lower-run .ensures) in
@@ -49,7 +49,7 @@ returns : tie.Need-returns
 returns c =
     let ran = c .before .before .before in
     let told = ran .before .before in
-    let ended = told .before .before .before .lower-end in
+    let ended = told .before .before .before .run-end in
     let asked = told .before .before .before .before .before .before .before .pre in
     let step = lower-step _ _ _ _ _ _ (asked .0) (asked .1) (asked .2) _ (ended .ensures) _ _ _ (told .before .before .last-range .ensures)
     (told .before .is-suspicious .ensures) (told .is-suspicious2 .ensures) _ (ran .lower-run .ensures) in
@@ -59,7 +59,7 @@ returns-2 : tie.Need-returns-2
 returns-2 c =
     let ran = c .before .before in
     let told = ran .before .before in
-    let ended = told .before .before .before .lower-end in
+    let ended = told .before .before .before .run-end in
     let asked = told .before .before .before .before .before .before .before .pre in
     lower-step _ _ _ _ _ _ (asked .0) (asked .1) (asked .2) _ (ended .ensures) _ _ _ (told .before .before .last-range .ensures)
     (told .before .is-suspicious .ensures) (told .is-suspicious2 .ensures) _ (ran .lower-run .ensures)
@@ -68,7 +68,7 @@ pub fed-lower-spec : {M : Type 1} → statement M
 fed-lower-spec =
     tie.close
     (tie.spec
-    lower-end-requires
+    run-end-requires
     (λ c κs. search needs)
     is-suspicious-requires
     (λ c κs. search needs)
