@@ -58,7 +58,9 @@ def may():
 
 def main():
     parent, waiting = os.getppid(), set()
-    while may() and os.getppid() == parent:
+    if not may():
+        return
+    while os.getppid() == parent:
         look(waiting)
         time.sleep(SECONDS)
 
