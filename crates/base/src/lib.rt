@@ -1,5 +1,7 @@
 // The words that every room shares: flag bits, limits and refusal numbers by name, the test of a bit, numbers made of tests, what a refusal says,
 // a count or a refusal, a word of a table, and whether a number stands in a list.
+#![tactic(auto)]
+
 ghost use Rattle.std.specs.Prelude.{◌≡◌, ◌+◌, ◌<◌, ◌≤◌, length};
 ghost use Rattle.base.specs.Among.{among};
 ghost use Rattle.base.specs.Causes.{refused_at};
@@ -14,21 +16,21 @@ pub mod limits;
 pub mod refusals;
 
 // Why a call refused its input: 01's number of the cause, and the place that 01 names for it, 0 where it names none.
-#[derive(Drop)]
+#[derive(Clone, Copy)]
 pub struct Refusal {
     pub number: u32,
     pub place: u32,
 }
 
 // Whether a call is refused, and why.
-#[derive(Drop)]
+#[derive(Clone, Copy)]
 pub enum Cause {
     Allowed,
     Refused(Refusal),
 }
 
 // What a call answers that counts: how many, or why it refused.
-#[derive(Drop)]
+#[derive(Clone, Copy)]
 pub enum Counted {
     Count(u32),
     Refused(Refusal),

@@ -1,4 +1,6 @@
 // The ranking of the languages of a text (cd.rs: coherence_ratio).
+#![tactic(auto)]
+
 ghost use Rattle.std.specs.Prelude.{◌≡◌, length};
 ghost use Rattle.cd_ranking.specs.Ranking.{by_value};
 ghost use Rattle.cd_meaning.specs.Causes.{causes, causes_default};

@@ -1,4 +1,6 @@
 // How much of a language's alphabet a layer has (cd.rs: alphabet_languages).
+#![tactic(auto)]
+
 ghost use Rattle.std.specs.Prelude.{◌≡◌, ◌≤◌, ◌<◌, length};
 ghost use Rattle.base.specs.Limits.{LANGUAGE_LETTERS, MOST_LANGUAGES};
 ghost use Rattle.ratio.specs.Inner.Fraction.{Small};

@@ -1,5 +1,7 @@
 // What the matches that are kept come to: how many are sufficient, and the best score of each language (cd.rs: coherence_ratio's count, and
 // filter_alt_coherence_matches).
+#![tactic(auto)]
+
 ghost use Rattle.std.specs.Prelude.{◌≡◌, ◌<◌, ◌≤◌};
 ghost use Rattle.base.specs.Limits.{MOST_LANGUAGES};
 ghost use Rattle.cd_best.specs.Kept.{is_sufficient};
@@ -15,7 +17,7 @@ pub const ENOUGH: u32 = 3;
 
 // What the matches kept so far come to: how many were sufficient, and for each first record of a language whether a match of it was kept, and
 // the best score of those.
-#[derive(Drop)]
+#[derive(Clone, Copy)]
 pub struct Standing {
     pub sufficient: u32,
     pub kept: [bool; MOST_LANGUAGES],

@@ -1,4 +1,6 @@
 // How alike a layer's letters and a language's are: the Jaro measure in f64, and its nearest f32. (strsim's `jaro`, and `as f32`, in cd.rs.)
+#![tactic(auto)]
+
 ghost use Rattle.std.specs.Prelude.{◌≡◌, ◌-◌, ◌≤◌, length};
 ghost use Rattle.base.specs.Inner.Limits.{MOST_LETTERS};
 ghost use Rattle.base.specs.Limits.{LANGUAGE_LETTERS};
@@ -12,7 +14,7 @@ use base::limits::LANGUAGE_LETTERS;
 use base::{holds, one};
 
 // m and t of the measure.
-#[derive(Drop)]
+#[derive(Clone, Copy)]
 pub struct Counts {
     pub matches: usize,
     pub transpositions: usize,

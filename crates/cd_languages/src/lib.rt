@@ -1,4 +1,6 @@
 // The lent language table: its records, whether they are good, and the first record with a number.
+#![tactic(auto)]
+
 ghost use Rattle.std.specs.Prelude.{true, ◌≡◌, ◌<◌, ◌≤◌, get_or};
 ghost use Rattle.base.specs.First.{each};
 ghost use Rattle.base.specs.Limits.{LANGUAGE_LETTERS};

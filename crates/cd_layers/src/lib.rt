@@ -1,4 +1,6 @@
 // The split of a text into layers, by the ranges of its characters (cd.rs: alpha_unicode_split).
+#![tactic(auto)]
+
 ghost use Rattle.std.specs.Prelude.{◌≡◌, ◌≤◌, length};
 ghost use Rattle.base.specs.Limits.{LAST_RANGE, PAIR_BYTES};
 ghost use Rattle.cd_work.specs.Inner.Parts.{numbers_in};

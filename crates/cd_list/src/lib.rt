@@ -1,4 +1,6 @@
 // The lent list of matches. What decides is by value, in crate cd_ranking; here its matches are put into the list.
+#![tactic(auto)]
+
 ghost use Rattle.std.specs.Prelude.{◌≡◌, ◌<◌, ◌≤◌, length};
 ghost use Rattle.base.specs.Limits.{MOST_LANGUAGES};
 ghost use Rattle.base.specs.Put as lent;
@@ -8,7 +10,7 @@ use cd_ranking::{CoherenceMatch, Ranking};
 
 // What a call that fills a lent list answers: the number and place of a refusal, or ACCEPTED, 0 and how many matches there are.
 #[repr(C)]
-#[derive(Drop)]
+#[derive(Clone, Copy)]
 pub struct HostRanking {
     pub number: u32,
     pub place: u32,

@@ -1,5 +1,7 @@
 // The matches of one layer: the languages that its letters are compared with, in order, their scores, and what comes of them (cd.rs: the loop of
 // coherence_ratio over one layer).
+#![tactic(auto)]
+
 ghost use Rattle.std.specs.Prelude.{true, map, ◌≡◌, ◌≤◌, ◌<◌, length};
 ghost use Rattle.base.specs.Limits.{LANGUAGE_LETTERS, MOST_INCLUDED};
 ghost use Rattle.base.specs.Inner.Limits.{MOST_LETTERS};

@@ -1,4 +1,6 @@
 // Which characters of a text are taken into layers, and what the work area holds of them (cd.rs: alpha_unicode_split's filter and lowering).
+#![tactic(auto)]
+
 ghost use Rattle.std.specs.Prelude.{◌≡◌, true, ◌+◌, ◌≤◌, ◌<◌, length, replicate, set};
 ghost use Rattle.base.specs.Limits.{LONGEST_RANKED};
 ghost use Rattle.base.specs.Put.{put};

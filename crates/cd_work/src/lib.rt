@@ -1,6 +1,8 @@
 // The work area of a ranking: four parts of one word a slot, one behind the other. A slot is a letter of the text. The parts are the slots'
 // ranges, in whose place come the layers' numbers; the lowered letters; what the letters of the layer that is read lack; and these letters,
 // ranked. Where each part starts is known here alone.
+#![tactic(auto)]
+
 ghost use Rattle.std.specs.Prelude.{◌≡◌, ◌≤◌};
 ghost use Rattle.base.specs.Inner.Limits.{LONGEST_LAYER};
 ghost use Rattle.cd_work.specs.Inner.Layout.{letters_start, lacks_start, order_start};

@@ -1,5 +1,7 @@
 // The built-in table: what each of the 592 code points U+0000 to U+024F is (document 01, "Tables"). The words stand in words.rt, which
 // the oracle writes.
+#![tactic(auto)]
+
 ghost use Rattle.std.specs.Prelude.{◌≡◌, ◌<◌};
 ghost use Rattle.base.specs.Limits.{BUILTIN_END};
 ghost use Rattle.class_builtin.specs.Inner.Packed.{unpack};
@@ -13,7 +15,7 @@ use base::limits::BUILTIN_END;
 pub mod words;
 
 // What the table says of a code point, as a lent class record says it: a base or lower of 0 means the character itself.
-#[derive(Drop)]
+#[derive(Clone, Copy)]
 pub struct Entry {
     pub flags: u32,
     pub range: u32,

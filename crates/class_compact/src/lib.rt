@@ -1,4 +1,6 @@
 // The compact class table: records of 16 bytes, and the letters that they share in a list of their own; packed, unpacked and checked.
+#![tactic(auto)]
+
 ghost use Rattle.std.specs.Prelude.{◌≡◌, true, ◌≤◌, length};
 ghost use Rattle.base.specs.declared.Cause.TheVariants.{Allowed};
 ghost use Rattle.base.specs.Causes.{refused_at};

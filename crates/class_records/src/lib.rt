@@ -1,4 +1,6 @@
 // The lent class table: its records, and whether they are good.
+#![tactic(auto)]
+
 ghost use Rattle.std.specs.Prelude.{◌≡◌, ◌+◌, ◌≤◌, ◌<◌, eqb, length};
 ghost use Rattle.class_records.specs.Records.{records, record_at, none_or_scalar, good_fields, first_bad};
 ghost use Rattle.class_records.specs.Inner.InOrder.{span_after};
@@ -27,7 +29,7 @@ const LOWER_AT: usize = 20;
 const HALF: u32 = 65536;
 
 // A record as 01 lays it out: the code points first to last, and what holds of each of them.
-#[derive(Drop)]
+#[derive(Clone, Copy)]
 pub struct Record {
     pub first: u32,
     pub last: u32,

@@ -1,7 +1,7 @@
 // The search for the record that holds a code point, by halving.
 ghost use Rattle.std.specs.Prelude.{true, ◌≡◌, ◌<◌};
 ghost use Rattle.class_records.specs.Records.{records, record_at, good_table, holds, holder};
-ghost use Rattle.class_records.specs.Inner.Halving.{Starting};
+ghost use Rattle.class_records.specs.Inner.Halving.{ending};
 
 use crate::LAST_AT;
 use base::limits::CLASS_RECORD;
@@ -29,22 +29,28 @@ pub fn last_of(t: &[u8], i: usize) -> u32
     u32_at(t, i * CLASS_RECORD + LAST_AT)
 }
 
-// The last record of a good table that starts at p or before it, or the first. The one at `low` starts so, unless it is the first, and those from
-// `low + size` on start past p. How often it halves does not hang on p, so that the processor foresees it.
-fn last_starting(t: &[u8], p: u32) -> usize
+// The first record of a good table that ends at p or past it, or the number of records. Those before `low` end before p, those from `low + size` on do
+// not. How often it halves does not hang on p, so that the processor foresees it.
+fn first_ending(t: &[u8], p: u32) -> usize
     requires { good_table t.now ≡ true }
-    ensures { Starting t.now p result }
+    ensures { result ≡ ending t.now p }
 {
     let mut low = 0;
     let mut size = t.len() / CLASS_RECORD;
     while 1 < size {
         let half = size / 2;
-        if first_of(t, low + half) <= p {
+        if last_of(t, low + half - 1) < p {
             low += half;
             size -= half;
         } else {
             size -= half;
         }
+    }
+    if size == 0 {
+        return low;
+    }
+    if last_of(t, low) < p {
+        return low + 1;
     }
     low
 }
@@ -55,11 +61,12 @@ pub fn find(t: &[u8], p: u32) -> usize
     ensures { result ≡ holder t.now p }
 {
     let none = t.len() / CLASS_RECORD;
-    let i = last_starting(t, p);
-    if i < none {
-        if is_holder(t, p, i) {
-            return i;
-        }
+    let i = first_ending(t, p);
+    if none <= i {
+        return none;
+    }
+    if first_of(t, i) <= p {
+        return i;
     }
     none
 }

@@ -1,4 +1,6 @@
 // What a code point is: its class, found in the built-in table or in a lent one; the check of a lent class table; and the pair table.
+#![tactic(auto)]
+
 ghost use Rattle.std.specs.Prelude.{◌≡◌, true, ◌≤◌, ◌<◌, length};
 ghost use Rattle.base.specs.Limits.{BUILTIN_END, LAST_RANGE, PAIR_BYTES};
 ghost use Rattle.class_builtin.specs.Inner.Words.{packed_words};
@@ -14,7 +16,7 @@ use class_builtin::Table;
 
 // A code point and what the tables say of it. `base` is the letter without accent and `lower` the lower-case letter, the character itself
 // where a table has 0. (md/structs.rs: MessDetectorChar, its character, flags and unicode_range.)
-#[derive(Drop)]
+#[derive(Clone, Copy)]
 pub struct Class {
     pub point: u32,
     pub flags: u32,
@@ -27,7 +29,7 @@ pub struct Class {
 pub const HINTS: usize = 1024;
 
 // What the lookup finds.
-#[derive(Drop)]
+#[derive(Clone, Copy)]
 pub enum Found {
     At(Class),
     Nothing,

@@ -2,6 +2,8 @@
 //
 // An f64 has 52 binary digits below its leading one and an f32 has 23, so 29 are dropped; the exponent's field stands above the digits in
 // both, and counts from 1023 in the one and from 127 in the other. Rounding the digits up may carry into the field, which is then right.
+#![tactic(auto)]
+
 ghost use Rattle.std.specs.Prelude.{◌≡◌};
 ghost use Prim.Native.Nat.{◌*◌, ◌<◌, compare};
 ghost use Rattle.std.specs.Float.Ieee.{nearest};

@@ -1,5 +1,7 @@
 // What a host calls: numbers and slices in, a flat struct out, by the C ABI. Each entry is one call of the library and the flat form of
 // its answer; a ranking's matches are put into a lent list.
+#![tactic(auto)]
+
 ghost use Rattle.std.specs.Prelude.{◌≡◌, length};
 ghost use Rattle.base.specs.Counted.{lent_after};
 ghost use Rattle.classes.specs.Check.{checked};
@@ -46,7 +48,7 @@ mod running;
 
 // The answer of reading, and of a table's check: a refusal's number and place, or zeros and the count.
 #[repr(C)]
-#[derive(Drop)]
+#[derive(Clone, Copy)]
 pub struct HostRead {
     pub number: u32,
     pub place: u32,
@@ -55,7 +57,7 @@ pub struct HostRead {
 
 // What is shown of a detector: its two counts, and 1 where its ratio was cut off.
 #[repr(C)]
-#[derive(Drop)]
+#[derive(Clone, Copy)]
 pub struct HostShown {
     pub num: u32,
     pub den: u32,
@@ -64,7 +66,7 @@ pub struct HostShown {
 
 // What is shown of the eight, in md.rs's order.
 #[repr(C)]
-#[derive(Drop)]
+#[derive(Clone, Copy)]
 pub struct HostCounts {
     pub symbols: HostShown,
     pub accents: HostShown,
@@ -79,7 +81,7 @@ pub struct HostCounts {
 // The answer of scoring: a refusal's number and place, the eight ratios in md.rs's order, their sum, the characters fed, 1 where the scan
 // stopped early, and the counts of each ratio.
 #[repr(C)]
-#[derive(Drop)]
+#[derive(Clone, Copy)]
 pub struct HostScore {
     pub number: u32,
     pub place: u32,
@@ -92,7 +94,7 @@ pub struct HostScore {
 
 // The verdict: the text taken and the text refused, 1 or 2, each 0 for none, and the refusal's number and place.
 #[repr(C)]
-#[derive(Drop)]
+#[derive(Clone, Copy)]
 pub struct HostVerdict {
     pub taken: u32,
     pub refused: u32,
@@ -102,7 +104,7 @@ pub struct HostVerdict {
 
 // The answer of a call over a ring: a refusal's number and place, or zeros and what to keep, head and count.
 #[repr(C)]
-#[derive(Drop)]
+#[derive(Clone, Copy)]
 pub struct HostRing {
     pub number: u32,
     pub place: u32,
@@ -112,7 +114,7 @@ pub struct HostRing {
 
 // The answer of packing: a refusal's number and place, or zeros, how many records and how many letters.
 #[repr(C)]
-#[derive(Drop)]
+#[derive(Clone, Copy)]
 pub struct HostPacked {
     pub number: u32,
     pub place: u32,
@@ -122,7 +124,7 @@ pub struct HostPacked {
 
 // The answer of a reason: a refusal's number and place, or zeros, the detector and how many indexes are listed.
 #[repr(C)]
-#[derive(Drop)]
+#[derive(Clone, Copy)]
 pub struct HostReason {
     pub number: u32,
     pub place: u32,
@@ -132,7 +134,7 @@ pub struct HostReason {
 
 // What a code point is: a refusal's number and place, or zeros, its flags and its range.
 #[repr(C)]
-#[derive(Drop)]
+#[derive(Clone, Copy)]
 pub struct HostClass {
     pub number: u32,
     pub place: u32,
@@ -265,7 +267,7 @@ pub extern "C" fn drasumira_verdict(
 // What the chooser hands back, in numbers: the text taken, 1 or 2, 0 for none; how many of its code points stand before its trailing
 // newlines; and the refusal's number and place. drasumira_verdict says which text was refused.
 #[repr(C)]
-#[derive(Drop)]
+#[derive(Clone, Copy)]
 pub struct HostChosen {
     pub taken: u32,
     pub length: u32,
@@ -424,7 +426,7 @@ pub extern "C" fn drasumira_report(rows: &[u32], out: &mut [u8]) -> HostRead
 }
 
 // What a feeding entry leaves in the lent state, and its answer.
-#[derive(Drop)]
+#[derive(Clone, Copy)]
 pub struct HostFed {
     pub state: HostRunning,
     pub answer: HostRead,

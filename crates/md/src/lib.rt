@@ -1,4 +1,6 @@
 // The scan of a text, and mess_ratio (md.rs): how much of a text is noise.
+#![tactic(auto)]
+
 ghost use Rattle.std.specs.Prelude.{◌≡◌};
 ghost use Rattle.md_meaning.specs.Inner.Scan.{refused};
 ghost use Rattle.md_meaning.specs.MessRatio.{mess_ratio, mess_ratio_default, whole_score};

@@ -27,7 +27,7 @@ use md_text::{at_checkpoint, char_at};
 use ratio::{EightCounts, rounding, telling};
 
 // What the lookup finds for a character, and the lent record that it found it in; below the built-in table's end there is none, and `held` says nothing.
-#[derive(Drop)]
+#[derive(Clone, Copy)]
 pub struct Looked {
     pub found: Found,
     pub held: usize,

@@ -1,4 +1,6 @@
 // The chooser (document 01, "The scan"): the more readable of two lent texts, and the verdict on them.
+#![tactic(auto)]
+
 ghost use Rattle.std.specs.Prelude.{◌≡◌, length};
 ghost use Rattle.md_chooser_meaning.specs.Inner.Cut.{CutLength};
 ghost use Rattle.md_chooser_meaning.specs.Inner.Part.{PartLength};

@@ -1,5 +1,7 @@
 // Scoring with a class table in the compact form. It is expanded once a call, in a room of EXPANSION_ROOM bytes, and then scored as the expansion is: that
 // checks the records, so that here only the letters are checked.
+#![tactic(auto)]
+
 ghost use Rattle.std.specs.Prelude.{◌≡◌};
 ghost use Rattle.class_compact_meaning.specs.Inner.Form.{Sized};
 ghost use Rattle.class_compact_meaning.specs.Inner.Sound.{Expanded};

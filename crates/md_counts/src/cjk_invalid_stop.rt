@@ -18,7 +18,7 @@ pub const STOP_DOWN: u32 = 0x4E05;
 const FEWEST: u32 = 16;
 
 // The Rust's CjkInvalidStopPlugin.
-#[derive(Drop)]
+#[derive(Clone, Copy)]
 pub struct CjkInvalidStop {
     // wrong_stop_count
     pub wrong: u32,

@@ -20,7 +20,7 @@ const LEAST_PART: u32 = 7;
 const LEAST_WHOLE: u32 = 20;
 
 // The Rust's TooManyAccentuatedPlugin.
-#[derive(Drop)]
+#[derive(Clone, Copy)]
 pub struct TooManyAccentuated {
     // character_count
     pub characters: u32,

@@ -21,7 +21,7 @@ const LEAST_PART: u32 = 3;
 const LEAST_WHOLE: u32 = 10;
 
 // The Rust's TooManySymbolOrPunctuationPlugin.
-#[derive(Drop)]
+#[derive(Clone, Copy)]
 pub struct TooManySymbolOrPunctuation {
     // character_count
     pub characters: u32,

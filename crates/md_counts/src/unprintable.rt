@@ -15,7 +15,7 @@ use ratio::{Counts, Fraction, counts_of};
 const WORTH: u32 = 8;
 
 // The Rust's UnprintablePlugin.
-#[derive(Drop)]
+#[derive(Clone, Copy)]
 pub struct Unprintable {
     // character_count
     pub characters: u32,

@@ -1,5 +1,7 @@
 // The eight detectors of document 01 together (md.rs feeds them in this order). They know nothing of tables: whether the pair of the last
 // range and the character's is suspicious is looked up outside and handed in.
+#![tactic(auto)]
+
 ghost use Rattle.std.specs.Prelude.{◌≡◌};
 ghost use Rattle.md_eight.specs.Detectors as detectors;
 ghost use Rattle.md_eight.specs.Inner.Detectors.{Room, Countable};
@@ -17,7 +19,7 @@ use ratio::{EightCounts, Ratios, rounding};
 
 pub mod runs;
 
-#[derive(Drop)]
+#[derive(Clone, Copy)]
 pub struct Detectors {
     pub symbols: TooManySymbolOrPunctuation,
     pub accents: TooManyAccentuated,

@@ -1,5 +1,7 @@
 // Where each detector's numerator last grew, kept beside the eight detectors (02 [8], for the running score too). It is found by comparing the
 // counts before and after a step, so that no detector's step knows of it; a scan that does not ask for it steps the eight alone.
+#![tactic(auto)]
+
 ghost use Rattle.std.specs.Prelude.{◌≡◌};
 ghost use Rattle.md_eight.specs.Detectors as detectors;
 ghost use Rattle.md_eight.specs.Inner.Detectors.{Room};
@@ -12,7 +14,7 @@ use md_eight::Detectors;
 use ratio::{Counts, EightCounts};
 
 // For each detector, in md.rs's order, the place of its numerator's last growth: the index and 1, and 0 where it has not grown.
-#[derive(Drop)]
+#[derive(Clone, Copy)]
 pub struct Growths {
     pub symbols: u32,
     pub accents: u32,
@@ -25,7 +27,7 @@ pub struct Growths {
 }
 
 // The eight detectors, and where each last grew.
-#[derive(Drop)]
+#[derive(Clone, Copy)]
 pub struct Watched {
     pub eight: Detectors,
     pub grown: Growths,

@@ -1,5 +1,7 @@
 // A running line as a host keeps it (02 [6]): 48 u32, which the host lends. Whatever stands in them has a meaning, the threshold being its bits and a mark a
 // number that is true where it is not 0; and the calls of the running score over them, by value.
+#![tactic(auto)]
+
 ghost use Rattle.std.specs.Prelude.{◌≡◌};
 ghost use Rattle.md_running_meaning.specs.Opening.{open_line};
 ghost use Rattle.md_running_meaning.specs.Feeding.{feed_line};

@@ -1,10 +1,12 @@
 // What the 48 numbers of a running line mean that a host lends (02 [6]), and what the calls leave in them: the types, their definitions and their laws. No
 // function stands here; md_lent has those that run.
+#![tactic(auto)]
+
 use base::Counted;
 
 // The numbers of each detector, in md.rs's order, and the places of the last growths: a mark is a u32.
 #[repr(C)]
-#[derive(Drop)]
+#[derive(Clone, Copy)]
 pub struct HostSymbols {
     pub characters: u32,
     pub punctuation: u32,
@@ -13,21 +15,21 @@ pub struct HostSymbols {
 }
 
 #[repr(C)]
-#[derive(Drop)]
+#[derive(Clone, Copy)]
 pub struct HostAccents {
     pub characters: u32,
     pub accentuated: u32,
 }
 
 #[repr(C)]
-#[derive(Drop)]
+#[derive(Clone, Copy)]
 pub struct HostUnprintable {
     pub characters: u32,
     pub unprintable: u32,
 }
 
 #[repr(C)]
-#[derive(Drop)]
+#[derive(Clone, Copy)]
 pub struct HostRanges {
     pub characters: u32,
     pub suspicious: u32,
@@ -36,7 +38,7 @@ pub struct HostRanges {
 }
 
 #[repr(C)]
-#[derive(Drop)]
+#[derive(Clone, Copy)]
 pub struct HostDoubled {
     pub characters: u32,
     pub successive: u32,
@@ -45,7 +47,7 @@ pub struct HostDoubled {
 }
 
 #[repr(C)]
-#[derive(Drop)]
+#[derive(Clone, Copy)]
 pub struct HostWords {
     pub characters: u32,
     pub words: u32,
@@ -60,14 +62,14 @@ pub struct HostWords {
 }
 
 #[repr(C)]
-#[derive(Drop)]
+#[derive(Clone, Copy)]
 pub struct HostStops {
     pub wrong: u32,
     pub cjk: u32,
 }
 
 #[repr(C)]
-#[derive(Drop)]
+#[derive(Clone, Copy)]
 pub struct HostArchaic {
     pub characters: u32,
     pub since: u32,
@@ -79,7 +81,7 @@ pub struct HostArchaic {
 }
 
 #[repr(C)]
-#[derive(Drop)]
+#[derive(Clone, Copy)]
 pub struct HostGrowths {
     pub symbols: u32,
     pub accents: u32,
@@ -94,7 +96,7 @@ pub struct HostGrowths {
 // A line of which some characters have arrived: its declared length, how many were received and how many of them fed, the threshold's bits and the mark of
 // having stopped; then the detectors, and where each last grew.
 #[repr(C)]
-#[derive(Drop)]
+#[derive(Clone, Copy)]
 pub struct HostRunning {
     pub length: u32,
     pub received: u32,
@@ -114,7 +116,7 @@ pub struct HostRunning {
 
 // The answer of opening: a refusal's number and place and a state of zeros, or zeros and the state.
 #[repr(C)]
-#[derive(Drop)]
+#[derive(Clone, Copy)]
 pub struct HostOpened {
     pub number: u32,
     pub place: u32,
@@ -122,7 +124,7 @@ pub struct HostOpened {
 }
 
 // What a feeding call leaves in the lent numbers, which are the very ones given where it refused; and the number received, or why it refused.
-#[derive(Drop)]
+#[derive(Clone, Copy)]
 pub struct LentFed {
     pub state: HostRunning,
     pub answer: Counted,

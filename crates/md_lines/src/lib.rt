@@ -1,4 +1,6 @@
 // Many lines scored in one call: the tables are checked once, so that a burst of short lines costs what its characters cost.
+#![tactic(auto)]
+
 ghost use Rattle.std.specs.Prelude.{◌≡◌, length};
 ghost use Rattle.md_lines_meaning.specs.Burst as bursts;
 

@@ -16,7 +16,7 @@ use ratio::{Counts, Fraction, counts_of};
 const WORTH: u32 = 2;
 
 // The Rust's SuspiciousDuplicateAccentPlugin.
-#[derive(Drop)]
+#[derive(Clone, Copy)]
 pub struct SuspiciousDuplicateAccent {
     // character_count
     pub characters: u32,
@@ -52,19 +52,6 @@ impl SuspiciousDuplicateAccent {
         ensures { result ≡ both self flags bit }
     {
         is_set(flags, bit) & is_set(self.flags, bit)
-    }
-
-    // The same, field by field: where it is copied whole, the compiler packs two fields into one word at each character and unpacks them again.
-    fn kept(self) -> SuspiciousDuplicateAccent
-        ensures { result ≡ self }
-    {
-        let successive = self.successive;
-        SuspiciousDuplicateAccent {
-            characters: self.characters,
-            successive,
-            flags: self.flags,
-            base: self.base,
-        }
     }
 
     // A letter without accent: most are, and their way is kept short.
@@ -105,7 +92,7 @@ impl SuspiciousDuplicateAccent {
         ensures { result ≡ feed self c }
     {
         if !latin_letter(c.flags) {
-            return self.kept();
+            return self;
         }
         if is_set(c.flags, ACCENTUATED) {
             return self.letter(c);
@@ -127,7 +114,7 @@ impl SuspiciousDuplicateAccent {
                 base,
             };
         }
-        self.kept()
+        self
     }
 
     pub fn counts(self) -> Counts

@@ -20,7 +20,7 @@ const LEAST_PART: u32 = 1;
 const LEAST_WHOLE: u32 = 10;
 
 // The Rust's SuspiciousRangePlugin.
-#[derive(Drop)]
+#[derive(Clone, Copy)]
 pub struct SuspiciousRange {
     // character_count
     pub characters: u32,

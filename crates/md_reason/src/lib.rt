@@ -1,4 +1,6 @@
 // Why a line is noise (02 [8]): the first detector with the greatest ratio, and the indexes of the characters at which its numerator grew.
+#![tactic(auto)]
+
 ghost use Rattle.std.specs.Prelude.{◌≡◌, ◌≤◌, length};
 ghost use Rattle.base.specs.Limits.{LONGEST_TEXT};
 ghost use Rattle.classes.specs.Inner.Tables.{Tables};

@@ -1,5 +1,7 @@
 // The monthly report: for each detector how many lines fall into each bin, and how many lines there were, as text. The rows are those that `score_lines` leaves.
 // The text is made in an array of the call's own first, so that an output that cannot hold it is left alone.
+#![tactic(auto)]
+
 mod count;
 mod text;
 

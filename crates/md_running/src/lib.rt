@@ -1,5 +1,7 @@
 // The score of a line while it arrives (02 [6]): the line is opened with its length, fed one character a call or a chunk, and closed. The state goes in by
 // value and comes back; the host's entries are lent it and store what comes back.
+#![tactic(auto)]
+
 ghost use Rattle.std.specs.Prelude.{◌≡◌};
 ghost use Rattle.md_running_meaning.specs.Opening as opening;
 ghost use Rattle.md_running_meaning.specs.Feeding as feeding;

@@ -1,5 +1,7 @@
 // Characters of one kind in a row, fed at once: each step comes to what the characters come to one by one. A run ends at a checkpoint at the latest, and
 // before the newline, U+4E04 and U+4E05.
+#![tactic(auto)]
+
 ghost use Rattle.std.specs.Prelude.{◌≡◌, ◌<◌, ◌≤◌, true, length};
 ghost use Rattle.base.specs.Limits.{BUILTIN_END, LONGEST_TEXT};
 ghost use Rattle.class_records.specs.Records.{records};
@@ -22,14 +24,14 @@ use md_text::{at_checkpoint, fed, piece_end};
 mod ahead;
 
 // What a step of the scan comes to: the state, and the index of the character that comes next.
-#[derive(Drop)]
+#[derive(Clone, Copy)]
 pub struct Fed {
     pub state: Detectors,
     pub next: usize,
 }
 
 // The code points around one, low to high, that its record holds, with no wrong stop among them; and the record's base, 0 for the character itself.
-#[derive(Drop)]
+#[derive(Clone, Copy)]
 pub struct Alike {
     pub low: u32,
     pub high: u32,
@@ -191,16 +193,16 @@ pub fn fed_word(
     }
 }
 
-// Whether a space stands at i, and no checkpoint before it. The space is asked first, since behind most characters none stands.
+// Whether a space stands at i, and no checkpoint before it. The checkpoint is asked first, since the loop asks the same after the step.
 pub fn before_space(text: &[u32], i: usize) -> bool
     requires { 0 < i }
     ensures { result ≡ true → Spaced text.now i }
 {
-    if text.len() <= i {
+    if at_checkpoint(text.len(), i - 1) {
         return false;
     }
-    if text[i] != SPACE {
-        return false;
+    if i < text.len() {
+        return text[i] == SPACE;
     }
-    !at_checkpoint(text.len(), i - 1)
+    false
 }

@@ -1,6 +1,8 @@
 // A second engine for the mess ratio, plainly written (document 02, [10]), so that two pieces agree on every verdict. The text is classed once (classed);
 // weird words and archaic case come from a word reader and a gap reader that call each other (readers), the other six from a count each over the
 // characters fed (counting); scan asks for all eight at each checkpoint, from the first character on. Of the first engine it has the answer's type alone.
+#![tactic(auto)]
+
 ghost use Rattle.std.specs.Prelude.{◌≡◌};
 ghost use Rattle.md_second.specs.Second.{second_score};
 

@@ -41,7 +41,7 @@ const LONGEST_RUN: u32 = 64;
 const CHANGES: u32 = 2;
 
 // The words that are closed: their characters, their number, the foreign long ones, the characters of bad ones.
-#[derive(Drop)]
+#[derive(Clone, Copy)]
 pub struct Words {
     pub characters: u32,
     pub words: u32,
@@ -50,7 +50,7 @@ pub struct Words {
 }
 
 // The word that is being read: what has entered it.
-#[derive(Drop)]
+#[derive(Clone, Copy)]
 pub struct Word {
     pub length: u32,
     pub accents: u32,
@@ -62,7 +62,7 @@ pub struct Word {
 
 // Archaic case: the characters since its last separator, their changes of case, those counted, the last character, whether all since were
 // ASCII, whether the last changed case.
-#[derive(Drop)]
+#[derive(Clone, Copy)]
 pub struct Case {
     pub since: u32,
     pub run: u32,
@@ -73,7 +73,7 @@ pub struct Case {
 }
 
 // What a reader hands over.
-#[derive(Drop)]
+#[derive(Clone, Copy)]
 pub struct Reading {
     pub words: Words,
     pub case: Case,

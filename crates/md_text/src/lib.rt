@@ -1,4 +1,6 @@
 // The characters that a scan feeds, one of them fed, and the checkpoints.
+#![tactic(auto)]
+
 ghost use Rattle.std.specs.Prelude.{◌≡◌, ◌≤◌, ◌<◌, length};
 ghost use Rattle.base.specs.Limits.{LONGEST_TEXT, LAST_RANGE, PAIR_BYTES};
 ghost use Rattle.md_eight.specs.Inner.Detectors as detectors;

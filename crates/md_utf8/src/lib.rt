@@ -1,4 +1,6 @@
 // Scoring of UTF-8 bytes: reading and mess_ratio in one call, with no lent output.
+#![tactic(auto)]
+
 ghost use Rattle.std.specs.Prelude.{◌≡◌};
 ghost use Rattle.md_utf8_meaning.specs.ScoreUtf8.{mess_ratio_utf8, mess_ratio_utf8_default};
 

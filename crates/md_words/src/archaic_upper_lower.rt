@@ -14,7 +14,7 @@ use ratio::{Counts, Fraction, counts_of};
 const LONGEST_RUN: u32 = 64;
 
 // The Rust's ArchaicUpperLowerPlugin.
-#[derive(Drop)]
+#[derive(Clone, Copy)]
 pub struct ArchaicUpperLower {
     // character_count
     pub characters: u32,

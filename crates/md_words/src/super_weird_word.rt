@@ -34,7 +34,7 @@ const CAMEL_WHOLE: u32 = 10;
 
 // The Rust's SuperWeirdWordPlugin. Of its `buffer` it reads the length, the last character's flags and how many are UPPERCASE; its
 // bad_word_count is never read and left out.
-#[derive(Drop)]
+#[derive(Clone, Copy)]
 pub struct SuperWeirdWord {
     // character_count
     pub characters: u32,

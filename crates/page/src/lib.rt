@@ -1,5 +1,7 @@
 // Single-byte code pages, read and written. A page is a lent table of 128 u16 for the bytes 80 to FF; bytes below 80 stand for themselves.
 // Everything is checked before anything is written, so that a refusal leaves the lent output alone.
+#![tactic(auto)]
+
 mod check;
 mod inverse;
 mod points;

@@ -1,4 +1,6 @@
 // Text put into a lent output, piece by piece: words, and numbers in decimal.
+#![tactic(auto)]
+
 ghost use Rattle.std.specs.Prelude.{◌+◌, ◌≤◌, length};
 ghost use Rattle.pieces.specs.Numerals.{MOST_DIGITS};
 ghost use Rattle.pieces.specs.Inner.Pieces.{Goes, Numbered};

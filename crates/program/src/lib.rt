@@ -1,4 +1,6 @@
 // The program: the bytes of standard input in, the line for standard output out. `report` is the whole of it; `run` only reads and writes.
+#![tactic(auto)]
+
 ghost use Rattle.std.specs.Prelude.{◌≡◌};
 ghost use Rattle.md_utf8_meaning.specs.ScoreUtf8.{mess_ratio_utf8};
 ghost use Rattle.program.specs.Program as program;

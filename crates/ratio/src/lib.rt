@@ -1,4 +1,6 @@
 // A detector's counts, and the fraction and the ratio that are made of them: here, once for all eight.
+#![tactic(auto)]
+
 ghost use Rattle.std.specs.Prelude.{◌≡◌, ◌≤◌};
 ghost use Rattle.ratio.specs.Inner.Fraction.{MOST_TERM, Small};
 ghost use Rattle.ratio.specs.Fraction.{at_least, counts_of, fraction_of};
@@ -11,14 +13,14 @@ pub mod telling;
 pub const DETECTORS: usize = 8;
 
 // Two counts, `num` over `den`.
-#[derive(Drop)]
+#[derive(Clone, Copy)]
 pub struct Fraction {
     pub num: u32,
     pub den: u32,
 }
 
 // What a detector answers: its two counts, the factor of 8 or 2 included, and whether no cut-off applies.
-#[derive(Drop)]
+#[derive(Clone, Copy)]
 pub struct Counts {
     pub numerator: u32,
     pub denominator: u32,
@@ -26,7 +28,7 @@ pub struct Counts {
 }
 
 // The eight detectors' counts, in md.rs's order.
-#[derive(Drop)]
+#[derive(Clone, Copy)]
 pub struct EightCounts {
     pub symbols: Counts,
     pub accents: Counts,
@@ -40,7 +42,7 @@ pub struct EightCounts {
 
 // The eight detectors' ratios, in md.rs's order. They cross to a host as they stand.
 #[repr(C)]
-#[derive(Drop)]
+#[derive(Clone, Copy)]
 pub struct Ratios {
     pub symbols: f32,
     pub accents: f32,
@@ -53,7 +55,7 @@ pub struct Ratios {
 }
 
 // What an answer shows of a detector beside its ratio: the two counts, and whether the ratio was cut off.
-#[derive(Drop)]
+#[derive(Clone, Copy)]
 pub struct Shown {
     pub num: u32,
     pub den: u32,
@@ -61,7 +63,7 @@ pub struct Shown {
 }
 
 // What it shows of the eight, in md.rs's order.
-#[derive(Drop)]
+#[derive(Clone, Copy)]
 pub struct EightShown {
     pub symbols: Shown,
     pub accents: Shown,

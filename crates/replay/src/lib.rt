@@ -1,6 +1,8 @@
 // What the programs replay_* share. A list of cases comes on standard input: for each case its size in bytes, a little-endian u32, and
 // then that many bytes, whose meaning is the program's own. No contract can say what is read or written, so these promise only that they
 // are safe and end; what a case compares, a program's own function does.
+#![tactic(auto)]
+
 ghost use Rattle.std.specs.Prelude.{◌≤◌, ◌<◌, ◌≡◌, length};
 ghost use Rattle.replay.specs.Inner.Sizes.{FRONT, Fits};
 ghost use Rattle.replay.specs.Inner.Tally.{Sound, Tallied, Started, Turned};
@@ -24,7 +26,7 @@ const SIGN_BIT: u32 = 0x8000_0000;
 
 // What a replay has come to: how many cases it has compared, how many of them differ and the first that does, counted from 1; and the size of the
 // case that stands in the buffer, 0 where there is none left.
-#[derive(Drop)]
+#[derive(Clone, Copy)]
 pub struct Tally {
     pub cases: u32,
     pub differ: u32,

@@ -1,4 +1,6 @@
 // Replays verdicts on pairs of texts, and the parts that the chooser hands back (oracle/lists/chooser.py).
+#![tactic(auto)]
+
 ghost use Rattle.std.specs.Prelude.{◌≤◌, length};
 
 use base::limits::{CLASS_RECORD, MOST_CLASSES, PAIR_BYTES};

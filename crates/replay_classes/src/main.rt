@@ -1,5 +1,7 @@
 // Replays class tables, code points and pair bits with their answers (oracle/lists/classes.py): what the check says of a table, what the lookup
 // finds in it, and what the pair table says of two ranges.
+#![tactic(auto)]
+
 ghost use Rattle.std.specs.Prelude.{true, ◌≡◌, ◌*◌, ◌≤◌, length};
 ghost use Rattle.base.specs.Limits.{CLASS_RECORD, PAIR_BYTES};
 ghost use Rattle.class_records.specs.Records.{good_table};

@@ -1,5 +1,7 @@
 // Replays rankings of languages (oracle/lists/coherence.py): number, place and count, every language and every bit of a score, and the work
 // area, whose words are marked before each call: all 0 for the text after acceptance, all else as it was.
+#![tactic(auto)]
+
 ghost use Rattle.std.specs.Prelude.{◌+◌, ◌≤◌, ◌≡◌, length};
 ghost use Rattle.replay.specs.Inner.Tally.{Sound};
 ghost use Rattle.replay_coherence.specs.Inner.Sizes.{BLOCK_BYTES, TEXT_ROOM};

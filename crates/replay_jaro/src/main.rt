@@ -1,5 +1,7 @@
 // Replays a list of pairs of letters with their Jaro measure, the f32 by the oracle, and of f64s with their nearest f32
 // (oracle/lists/jaro.py).
+#![tactic(auto)]
+
 ghost use Rattle.std.specs.Prelude.{◌≡◌, ◌<◌, ◌≤◌, ◌^◌, length};
 ghost use Rattle.base.specs.Inner.Limits.{MOST_LETTERS};
 ghost use Rattle.base.specs.Limits.{LANGUAGE_LETTERS};

@@ -1,5 +1,7 @@
 // Replays a list of texts with the oracle's layers (oracle/lists/layers.py): the letters of each layer, in making order and in text order,
 // how many they are, and its different letters by count falling, then code point rising.
+#![tactic(auto)]
+
 ghost use Rattle.std.specs.Prelude.{◌+◌, ◌≤◌, ◌≡◌, length};
 ghost use Rattle.base.specs.Limits.{LAST_RANGE, PAIR_BYTES};
 ghost use Rattle.cd_work.specs.Inner.Layout as layout;

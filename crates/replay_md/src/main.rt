@@ -1,4 +1,6 @@
 // Replays mess_ratio's whole answers (oracle/lists/md.py): texts over the crate's tables, every cause of refusal and every pair of causes.
+#![tactic(auto)]
+
 ghost use Rattle.std.specs.Prelude.{◌≡◌, ◌≤◌, length};
 ghost use Rattle.md_meaning.specs.Inner.Plain.{PlainAnswer, PlainScore};
 

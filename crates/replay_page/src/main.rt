@@ -1,5 +1,7 @@
 // Replays a list of readings and writings under code pages with what they answer (oracle/lists/page.py): every byte of the three tables both ways, pages
 // bad in every way, code points that a page lacks, and the limits of length and room. Each case compares the answer and every element of the output.
+#![tactic(auto)]
+
 ghost use Rattle.std.specs.Prelude.{◌≤◌};
 ghost use Rattle.replay_page.specs.Inner.Sizes.{PAGE_ROOM, LONGEST};
 

@@ -1,5 +1,7 @@
 // Replays the oracle's answers of the eight detectors to short texts of raw flag words (oracle/lists/plugins.py, whose head says what a
 // case holds).
+#![tactic(auto)]
+
 ghost use Rattle.std.specs.Prelude.{◌≤◌, length};
 ghost use Rattle.base.specs.Inner.Limits.{LARGEST};
 ghost use Rattle.md_eight.specs.Inner.Detectors.{Countable};

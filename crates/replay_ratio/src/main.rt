@@ -1,5 +1,7 @@
 // Replays a list of fractions and thresholds with the answers of f32 arithmetic (oracle/lists/ratio.py): the quotient rounded once, the
 // five cut-offs, what a cut-off leaves, the sum of eight, and the finite test.
+#![tactic(auto)]
+
 ghost use Rattle.std.specs.Prelude.{◌≤◌};
 ghost use Rattle.ratio.specs.Inner.Fraction.{Small, Proper};
 ghost use Rattle.ratio.specs.Fraction.{share_of};

@@ -1,5 +1,7 @@
 // Replays a list of calls over a ring with what each answers and leaves (oracle/lists/ring.py): histories of small rings, wrong sizes, heads and counts, short
 // outputs, and the largest ring. Each case compares the answer, every byte of the ring and every byte of the output.
+#![tactic(auto)]
+
 ghost use Rattle.std.specs.Prelude.{◌≤◌, ◌<◌};
 ghost use Rattle.replay_ring.specs.Inner.Sizes.{SMALL, RING, OUTPUT};
 

@@ -1,5 +1,7 @@
 // Replays a list of byte strings with what reading them answers (oracle/lists/utf8.py): Table 3-7 at every bound, sequences that the end
 // cuts off, runs of ASCII, and the limits of bytes, code points and room. Each case compares the answer and every element of the output.
+#![tactic(auto)]
+
 ghost use Rattle.std.specs.Prelude.{◌≤◌, ◌<◌};
 ghost use Rattle.replay_utf8.specs.Inner.Sizes.{SMALL, INPUT, OUTPUT};
 

@@ -1,5 +1,7 @@
 // Replays a list of texts with what writing them answers (oracle/lists/utf8_write.py): Table 3-6 at the edges of each row, numbers that are no scalar
 // value, runs of ASCII, and the limits of code points and room. Each case compares the answer and every byte of the output.
+#![tactic(auto)]
+
 ghost use Rattle.std.specs.Prelude.{◌*◌, ◌≤◌, ◌<◌};
 ghost use Rattle.replay_utf8_write.specs.Inner.Sizes.{SMALL, INPUT, OUTPUT};
 

@@ -1,5 +1,7 @@
 // The verdict ring: one record of 32 bytes a line, kept in lent bytes until they are flushed. Head and count go in and out by value, and the caller
 // keeps them with the ring; in a refusal it keeps those that it has.
+#![tactic(auto)]
+
 ghost use Rattle.std.specs.Prelude.{◌≡◌, length};
 ghost use Rattle.base.specs.declared.Cause.TheVariants.{Allowed};
 ghost use Rattle.base.specs.Causes.{refused_at};

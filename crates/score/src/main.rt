@@ -1,4 +1,6 @@
 // The program: the score of standard input, or its refusal, as one line. Run here on byte 01.
+#![tactic(auto)]
+
 fn main() {
     program::run();
 }

@@ -1,5 +1,7 @@
 // The monthly report of the lines of standard input: up to 4,096 bytes, scored at 0.2 with no class records and no suspicious pair, as the program scores its input,
 // and reported. Run here on some lines. No contract can say what is read or written; the report's own stands in md_report.
+#![tactic(auto)]
+
 ghost use Rattle.std.specs.Prelude.{◌≤◌, ◌≡◌, length};
 ghost use Rattle.program.specs.Inner.Line.{LONGEST_LINE};
 

@@ -1,5 +1,7 @@
 // UTF-8 read into code points, by the Unicode Standard. The whole input is checked before anything is written, so that a refusal leaves
 // the lent output alone; both passes go by the first byte of a sequence, and over ASCII eight bytes at a time.
+#![tactic(auto)]
+
 pub mod ascii;
 
 ghost use Rattle.std.specs.Prelude.{true, ◌≡◌, ◌≤◌, length};

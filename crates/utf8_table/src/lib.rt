@@ -1,5 +1,7 @@
 // One sequence of UTF-8: whether a well-formed one stands at a place, and its code point, by the first byte (the Unicode Standard, Tables
 // 3-6 and 3-7); and which numbers have one. The reader in utf8 goes from sequence to sequence.
+#![tactic(auto)]
+
 ghost use Rattle.std.specs.Prelude.{◌≡◌, ◌+◌, ◌≤◌, ◌<◌, length};
 ghost use Rattle.base.specs.Tests.{scalar, within};
 ghost use Rattle.utf8_table.specs.WellFormed.{byte_at, point_of_two, point_of_three, point_of_four};

@@ -1,6 +1,8 @@
 // UTF-8 read in one pass, into a room of the caller's own with a place for each byte: what stands there after a fault is of no account, so that nothing has to be checked
 // before it is written. Sequences of one length in a row are taken by a loop of their own. Where words end no processor foresees: sequences of two are looked at eight together, with
 // no branch among them, and those of three that have stood together go on in a loop whose turn takes an ASCII byte before them without one: it is written where it would stand, and counted or not.
+#![tactic(auto)]
+
 ghost use Rattle.std.specs.Prelude.{◌≡◌, ◌+◌, ◌*◌, ◌≤◌, ◌<◌, length, take};
 ghost use Rattle.base.specs.Limits.{LONGEST_TEXT};
 ghost use Rattle.utf8_table.specs.WellFormed.{byte_at};
@@ -30,7 +32,7 @@ const AHEAD: usize = 8;
 const SPACED: usize = 4;
 
 // How far the bytes are taken, and the places of the room.
-#[derive(Drop)]
+#[derive(Clone, Copy)]
 pub struct Reached {
     pub from: usize,
     pub to: usize,

@@ -1,5 +1,7 @@
 // Code points written as UTF-8, in the shortest form, by the Unicode Standard. Everything is checked and counted before anything is written, so that
 // a refusal leaves the lent output alone; whole eights of ASCII are written in bulk.
+#![tactic(auto)]
+
 ghost use Rattle.std.specs.Prelude.{true, ◌≡◌, ◌+◌, ◌≤◌, length};
 ghost use Rattle.base.specs.Put.{put};
 ghost use Rattle.utf8_table.specs.Encoding.{encode_all, scalars};

@@ -1,31 +1,32 @@
--- The search by halving. In a good table records are "ascending, no overlap" (01), so the last record that starts at p or before it is the only one that
--- may hold p: `starting_gap` says that none does where that one does not. `Halving` is the search under way, among `size` records from `low` on.
+-- The search by halving. In a good table records are "ascending, no overlap" (01), so `ending`, the first record that ends at p or past it, is
+-- the only one that may hold p: `ending_holds`, `_gap` and `_past` say what the search answers. `Halving` is the search under way.
 -- Assumes nothing.
 use Prim.Native.Nat.{ℕ, ◌+◌, ◌-◌, ◌≤◌, ◌<◌}
-use mathlib.Core.Path.{◌≡◌}
+use mathlib.Core.Path.{◌≡◌, sym}
 use mathlib.Core.List.{List}
 use mathlib.Core.Bool.{true, false}
 use native.Mathlib.Omega.{arith}
-use Rattle.base.proofs.Laws.First.{first_none}
-use Rattle.base.proofs.Laws.Tests.{split, within_below, within_above}
+use borrow.Author.Tests.{leb-true, le-leb, lt-leb, leb-false}
+use Rattle.base.specs.First.{first}
+use Rattle.base.proofs.Laws.First.{first_is, first_none, first_before, first_found}
+use Rattle.base.proofs.Laws.Tests.{split, within_yes, within_below, within_above}
 use Rattle.class_records.specs.Records.{records, record_at, good_table, holds, holder}
-use Rattle.class_records.specs.Inner.Halving.{Starting}
-use Rattle.class_records.proofs.Laws.Records.{good_span_lem, each_good, table_none_bad, ordered}
+use Rattle.class_records.proofs.Laws.Records.{good_span_lem, each_good, table_none_bad, ordered, holder_is}
+use Rattle.class_records.specs.Inner.Halving.{ends_from, ending}
 
 module _ (t : List ℕ) (p : ℕ) where
-  pub record Halving (low size : ℕ) : Type 0 where
-    pub within : low + size ≤ records t
-    pub some : 0 < records t → 0 < size
-    pub starts : 0 < low → (record_at t low).first ≤ p
-    pub above : (i : ℕ) → low + size ≤ i → i < records t → p < (record_at t i).first
+  pub record Halving (low high : ℕ) : Type 0 where
+    pub order : low ≤ high
+    pub within : high ≤ records t
+    pub below : (i : ℕ) → i < low → (record_at t i).last < p
+    pub above : (i : ℕ) → high ≤ i → i < records t → p ≤ (record_at t i).last
 
-  -- all records
   pub halving_start : Halving 0 (records t)
   halving_start =
       record {
+        order = omega arith;
         within = omega arith;
-        some = λ l. l;
-        starts = λ l. absurd (omega arith);
+        below = λ i l. absurd (omega arith);
         above = λ i l h. absurd (omega arith);
       }
 
@@ -42,54 +43,89 @@ module _ (t : List ℕ) (g : good_table t ≡ true) (p : ℕ) where
   unfolding holds
   ahead i l = within_below (record_at t i).first (record_at t i).last p l
 
-  module _ {low size : ℕ} (s : Halving t p low size) where
-    -- the second half, from the record at low + half on, or where that one starts past p as many as are left where they are
-    module _ (half : ℕ) (some : 0 < half) (twice : half + half ≤ size) where
-      pub halving_inside : low + half < records t
-      halving_inside = omega (arith, s.within, some, twice)
-
-      pub halving_right : (record_at t (low + half)).first ≤ p → Halving t p (low + half) (size - half)
-      halving_right h =
-          record {
-            within = omega (arith, s.within, twice);
-            some = λ l. omega (arith, some, twice);
-            starts = λ l. h;
-            above = λ i l k. s.above i (omega (arith, l, twice)) k;
-          }
-
-      pub halving_left : p < (record_at t (low + half)).first → Halving t p low (size - half)
-      halving_left h =
-          record {
-            within = omega (arith, s.within, twice);
-            some = λ l. omega (arith, some, twice);
-            starts = s.starts;
-            above = λ i l k. split (low + half) i
-                (λ b. omega (arith, h, ordered t g (low + half) i b k, up (low + half) halving_inside))
-                (λ b. let e : i ≡ low + half = omega (arith, l, twice) in rw e h);
-          }
-
-    pub halving_end : size ≤ 1 → Starting t p low
-    halving_end one =
-        record {
-          inside = λ l. omega (arith, s.within, s.some l);
-          starts = s.starts;
-          behind = λ i l k. s.above i (omega (arith, l, one)) k;
-        }
-
   -- ---- the answer
-  module _ {r : ℕ} (s : Starting t p r) where
-    pub starting_none : records t ≤ r → holder t p ≡ records t
-    unfolding holder
-    starting_none h = first_none (holds t p) (records t) (λ i l. absurd (omega (arith, l, h, s.inside (omega (arith, l)))))
+  before : (i : ℕ) → i < ending t p → (record_at t i).last < p
+  unfolding ending
+  before i h = leb-false p (record_at t i).last (first_before (ends_from t p) (records t) i h)
 
-    pub starting_gap : holds t p r ≡ false → holder t p ≡ records t
+  pub ending_past : records t ≤ ending t p → holder t p ≡ records t
+  unfolding holder
+  ending_past h = first_none (holds t p) (records t) (λ i l. ended i l (before i (omega arith)))
+
+  module _ (h : ending t p < records t) where
+    there : p ≤ (record_at t (ending t p)).last
+    unfolding ending
+    there = leb-true p (record_at t (ending t p)).last (first_found (ends_from t p) (records t) h)
+
+    -- it holds p where it starts at p or before it
+    pub ending_holds : (record_at t (ending t p)).first ≤ p → holder t p ≡ ending t p
+    unfolding holds
+    ending_holds l = holder_is t g p (ending t p) h (within_yes _ _ p l there)
+
+    pub ending_gap : p < (record_at t (ending t p)).first → holder t p ≡ records t
     unfolding holder
-    starting_gap h = first_none (holds t p) (records t) each
+    ending_gap s = first_none (holds t p) (records t) each
       where
         each : (i : ℕ) → i < records t → holds t p i ≡ false
         each i l =
-            split i r
-            (λ a. ended i l (omega (arith, ordered t g i r a (s.inside (omega (arith, l))), s.starts (omega (arith, a)))))
-            (λ a. split r i
-            (λ b. ahead i (s.behind i b l))
-            (λ b. let z : i ≡ r = omega (arith, a, b) in rw z h))
+            split i (ending t p)
+            (λ a. ended i l (before i a))
+            (λ a. split (ending t p) i
+            (λ b. ahead i (omega (arith, there, ordered t g (ending t p) i b l)))
+            (λ b. let z : i ≡ ending t p = omega arith in rw z (ahead (ending t p) s)))
+
+  module _ {low high : ℕ} (s : Halving t p low high) where
+    module _ {m : ℕ} (a : low ≤ m) (z : m < high) where
+      pub halving_inside : m < records t
+      halving_inside = omega (arith, s.within)
+
+      pub halving_right : (record_at t m).last < p → Halving t p (m + 1) high
+      halving_right h =
+          record {
+            order = omega arith;
+            within = s.within;
+            below = λ i l. split i m
+                (λ k. omega (arith, ordered t g i m k halving_inside, up m halving_inside))
+                (λ k. let e : i ≡ m = omega arith in rw e h);
+            above = s.above;
+          }
+
+      pub halving_left : p ≤ (record_at t m).last → Halving t p low m
+      halving_left h =
+          record {
+            order = a;
+            within = omega (arith, s.within);
+            below = s.below;
+            above = λ i l k. split m i
+                (λ b. omega (arith, ordered t g m i b k, up i k))
+                (λ b. let e : i ≡ m = omega arith in rw e h);
+          }
+
+    pub halving_end : high ≤ low → low ≡ ending t p
+    unfolding ending
+    halving_end h =
+        split low (records t)
+        (λ l. sym (first_is (ends_from t p) (records t) low l (le-leb _ _ (s.above low h l)) (λ j k. lt-leb _ _ (s.below j k))))
+        (λ l. let e : low ≡ records t = omega (arith, s.order, s.within) in
+        rw e (sym (first_none (ends_from t p) (records t) (λ j k. lt-leb _ _ (s.below j (omega arith))))))
+
+  -- of `size` records from low on the first half ends with the one at m; where it is not passed, the search goes on among as many as are left where it is
+  module _ {low size : ℕ} (s : Halving t p low (low + size)) (half m : ℕ) (e : m + 1 ≡ low + half) (some : 0 < half) (twice : half + half ≤ size) where
+    pub sized_right : (record_at t m).last < p → Halving t p (low + half) (low + half + (size - half))
+    sized_right h =
+        let z : low + half + (size - half) ≡ low + size = omega (arith, twice) in
+        rw (z, ← e) (halving_right s (omega (arith, e, some)) (omega (arith, e, some, twice)) h)
+
+    pub sized_left : p ≤ (record_at t m).last → Halving t p low (low + (size - half))
+    sized_left h =
+        let l = halving_left s (omega (arith, e, some)) (omega (arith, e, some, twice)) h in
+        record {
+          order = omega arith;
+          within = omega (arith, s.within, twice);
+          below = s.below;
+          above = λ i x k. l.above i (omega (arith, x, e, twice)) k;
+        }
+
+-- all records
+pub sized_start : (t : List ℕ) (p : ℕ) → Halving t p 0 (0 + records t)
+sized_start t p = let z : 0 + records t ≡ records t = omega arith in rw z (halving_start t p)

@@ -1,10 +1,12 @@
--- A word of inner contracts, beside Halving: `Starting`. No public promise rests on it.
+-- Words of inner contracts, beside Halving: `ends_from`, `ending`. No public promise rests on them.
 -- Assumes nothing.
-use Rattle.std.specs.Prelude.{ℕ, ◌≤◌, ◌<◌, List}
+use Rattle.std.specs.Prelude.{ℕ, List, Bool, leb}
+use Rattle.base.specs.First.{first}
 use Rattle.class_records.specs.Records.{records, record_at}
 
--- r is the last record that starts at p or before it, or the first where none does
-pub record Starting (t : List ℕ) (p r : ℕ) : Type 0 where
-  pub inside : 0 < records t → r < records t
-  pub starts : 0 < r → (record_at t r).first ≤ p
-  pub behind : (i : ℕ) → r < i → i < records t → p < (record_at t i).first
+-- the record i ends at p or past it, and the first that does
+abbrev pub ends_from : List ℕ → ℕ → ℕ → Bool
+ends_from t p i = leb p (record_at t i).last
+
+unfoldable pub ending : List ℕ → ℕ → ℕ
+ending t p = first (ends_from t p) (records t)

@@ -1,7 +1,7 @@
 -- Characters of one kind in a row, fed at once, come to the state that the definition reaches one by one (`cased_run_lem`, `uncased_run_lem`), by induction over their
 -- number; and each step of the scan that feeds a run or a single character has advanced (`Advanced`).
 -- Assumes nothing.
-use Rattle.std.proofs.Common.{◌≡◌, ℕ, zero, suc, ◌+◌, ◌-◌, ◌<◌, ◌≤◌, Bool, true, false, not, ◌&&◌, ltb, leb, List, length, get_or, sym, refl, ap, ◌∙◌, add-one, arith, lt-ltb, ne_eqb, leb-false, leb-true}
+use Rattle.std.proofs.Common.{◌≡◌, ℕ, zero, suc, ◌+◌, ◌-◌, ◌<◌, ◌≤◌, Bool, true, false, not, ◌&&◌, eqb, ltb, leb, List, length, get_or, sym, refl, ap, ◌∙◌, add-one, arith, lt-ltb, ne_eqb, eqb-true, leb-false, leb-true}
 use lib.ListN.{get_or-eq_default}
 use borrow.Author.Tests.{not-true}
 use Rattle.base.specs.Limits.{BUILTIN_END, NEWLINE, LAST_RANGE, LONGEST_TEXT}
@@ -469,6 +469,6 @@ pub advanced_slim : (classes pairs text : List ℕ) (i : ℕ) (r : Fed) → Tabl
 advanced_slim classes pairs text i r g a = rw a.state (state_slim classes pairs text g.good r.next)
 
 -- what the tests for it say
-pub spaced_is : (text : List ℕ) (i : ℕ) (q : Bool) → q ≡ checkpoint (length text) (i - 1) → q ≡ false → i < length text → get_or text i 0 ≡ SPACE → Spaced text i
+pub spaced_is : (text : List ℕ) (i : ℕ) (q : Bool) → q ≡ checkpoint (length text) (i - 1) → q ≡ false → i < length text → eqb (get_or text i 0) SPACE ≡ true → Spaced text i
 spaced_is text i q e f h t =
-    record { inside = h; space = sym (get_d_any text i 0 NEWLINE h) ∙ t; quiet = sym e ∙ f }
+    record { inside = h; space = sym (get_d_any text i 0 NEWLINE h) ∙ eqb-true (get_or text i 0) SPACE t; quiet = sym e ∙ f }

@@ -1,0 +1,26 @@
+-- Nothing before j serves (`Seeking`): before the window nothing does, and the walk passes another letter or a taken one. The first that
+-- serves is the definition's, and past the window nothing does.
+-- Assumes nothing.
+use Prim.Native.Nat.{◌-◌}
+use Rattle.cd_jaro.proofs.Loops.Place.{seeking_start, seeking_other, seeking_taken, seeking_found, seeking_end, seeking_absent}
+use Rattle.cd_jaro.proofs.place.Goals as goal
+
+pub returns-then-not-holds : goal.returns-then-not-holds
+returns-then-not-holds c =
+    seeking_absent _ _ _ _ _ c.less-start.ensures c.least-end.ensures.is c.holds.ensures c.if-not-holds.true
+
+pub loop-j-init : goal.loop-j-init
+loop-j-init c = seeking_start _ _ _ _ _ c.less-start.ensures
+
+pub loop-j-preserved-then-language-j : goal.loop-j-preserved-then-language-j
+loop-j-preserved-then-language-j c = seeking_other _ _ _ _ _ c.loop-j.invariant c.if-language-j.true
+
+pub loop-j-preserved : goal.loop-j-preserved
+loop-j-preserved c = seeking_taken _ _ _ _ _ c.loop-j.invariant c.if-taken-j.true
+
+pub returns-else-taken-j : goal.returns-else-taken-j
+returns-else-taken-j c =
+    seeking_found _ _ _ _ _ c.loop-j.invariant c.least-end.ensures.is c.loop-j-test.true c.if-language-j.false c.if-taken-j.false
+
+pub returns : goal.returns
+returns c = seeking_end _ _ _ _ _ c.loop-j.invariant c.least-end.ensures.is c.loop-j-test.false

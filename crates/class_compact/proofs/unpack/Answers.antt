@@ -1,0 +1,26 @@
+-- Each return is one of the causes, in their order, or the expansion in the output. Assumes nothing.
+use Rattle.class_compact_meaning.proofs.Laws.Calls.{allowed_few, unpack_bad, unpack_short, unpack_done}
+use mathlib.Core.Path.{sym, ◌∙◌}
+use native.Mathlib.Omega.{arith}
+use Rattle.class_compact.proofs.unpack.Goals as goal
+
+pub returns-then-out-n : goal.returns-then-out-n
+returns-then-out-n c =
+    let told = rw c.not_counted.ensures
+    (unpack_short _ _ _ (sym c.bad_compact.ensures ∙ c.in-Allowed.is) c.if-out-n.true) in
+    record { value = told.0; out_after = told.1 }
+
+pub overflow_cast-result : goal.overflow_cast-result
+overflow_cast-result c =
+    let few = allowed_few _ _ (sym c.bad_compact.ensures ∙ c.in-Allowed.is) in omega (arith, few)
+
+pub returns-in-Refused : goal.returns-in-Refused
+returns-in-Refused c =
+    let told = unpack_bad _ _ _ _ (sym c.bad_compact.ensures ∙ c.in-Refused.is) in
+    record { value = told.0; out_after = told.1 }
+
+pub returns-else-out-n : goal.returns-else-out-n
+returns-else-out-n c =
+    let told = rw c.unpack_into.ensures.1
+    (unpack_done _ _ _ (sym c.bad_compact.ensures ∙ c.in-Allowed.is) c.if-out-n.false) in
+    record { value = told.0; out_after = told.1 }

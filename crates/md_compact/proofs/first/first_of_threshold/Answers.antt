@@ -1,0 +1,11 @@
+-- By the threshold. Assumes nothing.
+use Rattle.base.specs.Causes.{refused_at}
+use Rattle.md_compact.proofs.Laws.Either.{threshold_bad, threshold_fine}
+use Rattle.md_compact.proofs.first.first_of_threshold.Goals as goal
+
+pub returns-then-not-is_finite : goal.returns-then-not-is_finite
+unfolding refused_at
+returns-then-not-is_finite c = threshold_bad _ _ (rw c.is_finite.ensures at c.if-not-is_finite.true)
+
+pub returns : goal.returns
+returns c = threshold_fine _ _ (rw c.is_finite.ensures at c.if-not-is_finite.false)

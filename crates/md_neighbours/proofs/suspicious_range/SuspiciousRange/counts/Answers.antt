@@ -1,0 +1,16 @@
+-- The definition's two counts, and its test of the cut-off. Assumes nothing.
+use Rattle.md_neighbours.specs.SuspiciousRange.{counts}
+use borrow.Author.Rules.{rules}
+use Rattle.md_neighbours.proofs.suspicious_range.SuspiciousRange.counts.Goals as goal
+
+pub overflow_mul-share : goal.overflow_mul-share
+unfolding counts
+overflow_mul-share c = search rules
+
+pub at_least-requires : goal.at_least-requires
+unfolding counts
+at_least-requires c = search rules
+
+pub returns : goal.returns
+unfolding counts
+returns c = simp (c.counts_of.ensures, c.at_least.ensures)

@@ -1,0 +1,23 @@
+-- Scoring refuses first; then the list of its detector, among the characters that it fed, is told. Assumes nothing.
+use mathlib.Core.Path.{sym, ◌∙◌}
+use Rattle.md_reason_meaning.proofs.Laws.Reason.{reason_refused, refused_into, scored_answer, scored_into, scored_ripe}
+use Rattle.md_reason.proofs.reason.Goals as goal
+
+pub list_growths-requires : goal.list_growths-requires
+list_growths-requires c =
+    let ripe = scored_ripe _ _ _ _ _ (sym c.mess_ratio.ensures ∙ c.in-Score.is) in
+    (ripe.tables, ripe.short, ripe.fed, rw c.detector_of.ensures ripe.detector)
+
+pub returns-in-Refused : goal.returns-in-Refused
+returns-in-Refused c =
+    let told = let e = sym c.mess_ratio.ensures ∙ c.in-Refused.is in
+    (reason_refused _ _ _ _ _ e _, refused_into _ _ _ _ _ e _) in
+    record { value = told.0; out_after = told.1 }
+
+pub returns-in-Score : goal.returns-in-Score
+returns-in-Score c =
+    let told = let e = sym c.mess_ratio.ensures ∙ c.in-Score.is in (
+      c.list_growths.ensures.0 ∙ scored_answer _ _ _ _ _ e _ c.detector_of.ensures _,
+      c.list_growths.ensures.1 ∙ scored_into _ _ _ _ _ e _ c.detector_of.ensures _,
+    ) in
+    record { value = told.0; out_after = told.1 }

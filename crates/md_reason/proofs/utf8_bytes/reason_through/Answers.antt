@@ -1,0 +1,16 @@
+-- The room is filled with the text, and its first n places are the text again. Assumes nothing.
+use native.Mathlib.Omega.{arith}
+use lib.ListN.{length-take}
+use Rattle.md_utf8_meaning.proofs.Laws.ScoreUtf8.{text_back}
+use Rattle.md_reason.proofs.utf8_bytes.reason_through.Goals as goal
+
+pub slice_bounds-reason-end-2 : goal.slice_bounds-reason-end-2
+slice_bounds-reason-end-2 c = simp length-take (omega arith)
+
+pub returns : goal.returns
+returns c =
+    let told = (
+      rw (c.reason.ensures.0, c.fill.ensures, text_back _ _ _ c.requires.0.count),
+      rw (c.reason.ensures.1, c.fill.ensures, text_back _ _ _ c.requires.0.count),
+    ) in
+    record { value = told.0; out_after = told.1 }

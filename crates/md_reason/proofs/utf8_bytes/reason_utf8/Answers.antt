@@ -1,0 +1,21 @@
+-- Reading refuses first; bytes that were counted are readable. Assumes nothing.
+use mathlib.Core.Path.{sym, ◌∙◌}
+use Rattle.utf8_meaning.proofs.Laws.Answer.{readable}
+use Rattle.md_reason_meaning.proofs.Laws.ReasonUtf8.{unread, unread_into, read, read_into_lem}
+use Rattle.md_reason.proofs.utf8_bytes.reason_utf8.Goals as goal
+
+pub reason_read-requires : goal.reason_read-requires
+reason_read-requires c =
+    readable _ _ (sym c.count_utf8.ensures ∙ c.in-Count.is)
+
+pub returns-in-Refused : goal.returns-in-Refused
+returns-in-Refused c =
+    let told = let e = sym c.count_utf8.ensures ∙ c.in-Refused.is in
+    (unread _ _ _ _ _ e _, unread_into _ _ _ _ _ e _) in
+    record { value = told.0; out_after = told.1 }
+
+pub returns-in-Count : goal.returns-in-Count
+returns-in-Count c =
+    let told = let e = sym c.count_utf8.ensures ∙ c.in-Count.is in
+    (c.reason_read.ensures.0 ∙ read _ _ _ _ _ e _, c.reason_read.ensures.1 ∙ read_into_lem _ _ _ _ _ e _) in
+    record { value = told.0; out_after = told.1 }

@@ -1,0 +1,23 @@
+-- The character is refused where the lookup finds no class, and else the step is the definition's. Assumes nothing.
+use mathlib.Core.Path.{sym, ◌∙◌}
+use Rattle.classes.proofs.Laws.Lookup.{class_lawful}
+use Rattle.md_running_meaning.proofs.Laws.Feeding.{fed_refused, none_here, found_here}
+use Rattle.md_running.proofs.step.feed_checked.Goals as goal
+
+pub take-requires : goal.take-requires
+take-requires c =
+    let pre = c.requires in
+    record {
+      sound = pre.0;
+      room = pre.1;
+      fits = pre.2.fits;
+      range = (class_lawful _ pre.2.good _ _ (sym c.look_up_in.ensures ∙ c.in-At.is)).range;
+    }
+
+pub returns-in-Nothing : goal.returns-in-Nothing
+returns-in-Nothing c =
+    c.unfed.ensures ∙ fed_refused _ _ _ _ _ (none_here _ _ _ (sym c.look_up_in.ensures ∙ c.in-Nothing.is))
+
+pub returns-in-At : goal.returns-in-At
+returns-in-At c =
+    rw c.take.ensures (found_here _ _ _ _ _ (sym c.look_up_in.ensures ∙ c.in-At.is))

@@ -1,0 +1,8 @@
+-- One test of a bit for each flag that the definition names. Assumes nothing.
+use Rattle.md_words.specs.ArchaicUpperLower.{changes}
+use Rattle.md_words.proofs.archaic_upper_lower.changes.Goals as goal
+
+pub returns : goal.returns
+unfolding changes
+returns c =
+    simp (c.is_set-4.ensures, c.is_set-3.ensures, c.is_set-2.ensures, c.is_set.ensures)

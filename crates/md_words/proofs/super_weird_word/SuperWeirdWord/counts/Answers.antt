@@ -1,0 +1,7 @@
+-- The definition's two counts, and its test of the cut-off. Assumes nothing.
+use Rattle.md_words.specs.SuperWeirdWord.{counts}
+use Rattle.md_words.proofs.super_weird_word.SuperWeirdWord.counts.Goals as goal
+
+pub returns : goal.returns
+unfolding counts
+returns c = c.counts_of.ensures

@@ -1,0 +1,7 @@
+-- One test of a bit for each flag that the definition names. Assumes nothing.
+use Rattle.md_words.specs.SuperWeirdWord.{closes}
+use Rattle.md_words.proofs.super_weird_word.closes.Goals as goal
+
+pub returns : goal.returns
+unfolding closes
+returns c = simp (c.is_set-3.ensures, c.is_set-2.ensures, c.is_set.ensures)

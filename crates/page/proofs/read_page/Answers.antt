@@ -1,0 +1,18 @@
+-- A text that is too long, then a bad page; under a good one `read_good` decides. Assumes nothing.
+use mathlib.Core.Path.{sym, ◌∙◌}
+use Rattle.page_meaning.proofs.Laws.Answer.{allowed_good, over_read, bad_read}
+use Rattle.page.proofs.read_page.Goals as goal
+
+pub returns-then-bytes-gt-LONGEST_TEXT : goal.returns-then-bytes-gt-LONGEST_TEXT
+returns-then-bytes-gt-LONGEST_TEXT c =
+    let told = rw c.not_counted.ensures (over_read _ _ _ c.if-bytes-gt-LONGEST_TEXT.true) in
+    record { value = told.0; out_after = told.1 }
+
+pub read_good-requires : goal.read_good-requires
+read_good-requires c =
+    (c.if-bytes-gt-LONGEST_TEXT.false, allowed_good _ (sym c.bad_page.ensures ∙ c.in-Allowed.is))
+
+pub returns-in-Refused : goal.returns-in-Refused
+returns-in-Refused c =
+    let told = bad_read _ _ _ c.if-bytes-gt-LONGEST_TEXT.false _ (sym c.bad_page.ensures ∙ c.in-Refused.is) in
+    record { value = told.0; out_after = told.1 }

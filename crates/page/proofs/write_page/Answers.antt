@@ -1,0 +1,18 @@
+-- A text that is too long, then a bad page; under a good one `write_good` decides. Assumes nothing.
+use mathlib.Core.Path.{sym, ◌∙◌}
+use Rattle.page_meaning.proofs.Laws.Answer.{allowed_good, over_write, bad_write}
+use Rattle.page.proofs.write_page.Goals as goal
+
+pub returns-then-text-gt-LONGEST_TEXT : goal.returns-then-text-gt-LONGEST_TEXT
+returns-then-text-gt-LONGEST_TEXT c =
+    let told = rw c.not_counted.ensures (over_write _ _ _ c.if-text-gt-LONGEST_TEXT.true) in
+    record { value = told.0; out_after = told.1 }
+
+pub write_good-requires : goal.write_good-requires
+write_good-requires c =
+    (c.if-text-gt-LONGEST_TEXT.false, allowed_good _ (sym c.bad_page.ensures ∙ c.in-Allowed.is))
+
+pub returns-in-Refused : goal.returns-in-Refused
+returns-in-Refused c =
+    let told = bad_write _ _ _ c.if-text-gt-LONGEST_TEXT.false _ (sym c.bad_page.ensures ∙ c.in-Refused.is) in
+    record { value = told.0; out_after = told.1 }

@@ -1,0 +1,15 @@
+-- The part of the work area that is lent is as long as was cut. Assumes nothing.
+use native.Mathlib.Omega.{arith}
+use lib.ListN.{length-take}
+use Rattle.replay_coherence.proofs.same_ranking.Goals as goal
+
+pub slice_bounds-coherence_ratio-end-2 : goal.slice_bounds-coherence_ratio-end-2
+slice_bounds-coherence_ratio-end-2 c = simp length-take (omega (arith, c.least-n.ensures))
+
+pub same_matches-requires : goal.same_matches-requires
+same_matches-requires c =
+    c.requires.1
+
+pub zeros-requires : goal.zeros-requires
+zeros-requires c =
+    c.requires.2

@@ -1,0 +1,49 @@
+-- Each return is one of the causes, in their order, or the record behind the newest one. Assumes nothing.
+use mathlib.Core.Path.{sym, ◌∙◌}
+use native.Mathlib.Omega.{arith}
+use Rattle.ring_meaning.proofs.Laws.Calls.{put_bad, put_full, put_kept}
+use Rattle.ring_meaning.proofs.Laws.Record.{record_length}
+use Rattle.ring_meaning.proofs.Laws.Ring.{free_inside}
+use Rattle.ring_meaning.proofs.Laws.Size.{good_ring}
+use Rattle.ring.proofs.put_record.Goals as goal
+
+pub returns-then-wrong_ring : goal.returns-then-wrong_ring
+returns-then-wrong_ring c =
+    let told = rw c.ring_refused.ensures (put_bad _ _ _ _ (sym c.wrong_ring.ensures ∙ c.if-wrong_ring.true)) in
+    record { value = told.0; ring_after = told.1 }
+
+pub overflow_sub-unused : goal.overflow_sub-unused
+overflow_sub-unused c = (good_ring _ _ _ (sym c.wrong_ring.ensures ∙ c.if-wrong_ring.false)).held
+
+pub returns-then-unused-eq0 : goal.returns-then-unused-eq0
+returns-then-unused-eq0 c =
+    let told = let fine = sym c.wrong_ring.ensures ∙ c.if-wrong_ring.false in
+    rw c.ring_refused-then-unused-eq0.ensures (put_full _ _ _ fine _ (omega (arith, (good_ring _ _ _ fine).held, c.if-unused-eq0.true))) in
+    record { value = told.0; ring_after = told.1 }
+
+pub wrapped-free-requires : goal.wrapped-free-requires
+wrapped-free-requires c =
+    let good = good_ring _ _ _ (sym c.wrong_ring.ensures ∙ c.if-wrong_ring.false) in
+    omega (arith, good.inside, good.held)
+
+pub overflow_mul-free : goal.overflow_mul-free
+overflow_mul-free c =
+    let inside = free_inside _ _ _ (good_ring _ _ _ (sym c.wrong_ring.ensures ∙ c.if-wrong_ring.false)) _ c.wrapped-free.ensures in
+    omega (arith, inside)
+
+pub put_bytes-requires : goal.put_bytes-requires
+put_bytes-requires c =
+    rw (c.record_of-record.ensures, record_length)
+    (free_inside _ _ _ (good_ring _ _ _ (sym c.wrong_ring.ensures ∙ c.if-wrong_ring.false)) _ c.wrapped-free.ensures)
+
+pub overflow_add-count : goal.overflow_add-count
+overflow_add-count c =
+    let good = good_ring _ _ _ (sym c.wrong_ring.ensures ∙ c.if-wrong_ring.false) in
+    omega (arith, good.held, good.size.few)
+
+pub returns : goal.returns
+returns c =
+    let told = let room = c.if-unused-eq0.false in
+    rw (c.ring_kept.ensures, c.put_bytes.ensures, c.wrapped-free.ensures, c.record_of-record.ensures)
+    (put_kept _ _ _ (sym c.wrong_ring.ensures ∙ c.if-wrong_ring.false) _ (λ e. room (omega (arith, e)))) in
+    record { value = told.0; ring_after = told.1 }

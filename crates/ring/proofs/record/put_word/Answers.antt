@@ -1,0 +1,6 @@
+-- What is put is the number's bytes. Assumes nothing.
+use Rattle.ring.proofs.record.put_word.Goals as goal
+
+pub returns : goal.returns
+returns c =
+    rw (c.put_bytes.ensures, c.bytes_of-bytes.ensures)
