@@ -1,15 +1,9 @@
 -- The first parts of the two arrays are the definition's lists after i letters (`Matched`).
 -- Assumes nothing.
-use Prim.Native.Nat.{◌-◌, ◌<◌}
+use Prim.Native.Nat.{◌-◌}
 use native.Mathlib.Omega.{arith}
-use Rattle.base.specs.Limits.{LANGUAGE_LETTERS}
 use Rattle.cd_jaro.proofs.Loops.Matched.{matched_start, matched_few, matched_flags, matched_letters, matched_paired, matched_reach}
 use Rattle.cd_jaro.proofs.Loops.Matched.{matched_miss, matched_room, matched_hit, matched_end}
-use Rattle.cd_jaro.proofs.matched.Reads as reads
-use Rattle.cd_jaro.proofs.matched.Lts as lts
-use Rattle.cd_jaro.proofs.out_of_order.Reads as out_of_order_reads
-use Rattle.cd_jaro.proofs.place.Reads as place_reads
-use Rattle.cd_jaro.proofs.window.Reads as window_reads
 use Rattle.cd_jaro.proofs.matched.Goals as goal
 
 pub loop-i-init : goal.loop-i-init
@@ -27,29 +21,14 @@ bounds-taken-j c =
     omega (arith, c.requires.1)
 
 -- where a place was found, there is room for one letter more
-abbrev Found : Type 0
-Found =
-    lts.Then1
-    (window_reads.Asked, window_reads.Learnt, place_reads.Asked, place_reads.Learnt, out_of_order_reads.Asked, out_of_order_reads.Learnt)
-    reads.Pre
-    reads.Post
-    invariant-loop
-    decreases-loop
-room : (c : Found) → c.before.before.before.before.before.loop.m < LANGUAGE_LETTERS
-room c =
-    let at_loop_test = c.before.before.before.before in
-    let at_loop = at_loop_test.before in
-    let at_window = at_loop.before in
-    let asked = at_window.before.before.before in
-    matched_room _ _ at_loop.loop.invariant at_loop_test.loop-test.true at_window.window.ensures c.before.place.ensures c.if1.true asked.requires.1
 pub offset_bounds-letters-m : goal.offset_bounds-letters-m
-offset_bounds-letters-m c = omega (arith, room c)
+offset_bounds-letters-m c = omega (arith, matched_room _ _ c.loop-i.invariant c.loop-i-test.true c.window-w.ensures c.place-j.ensures c.if-j-n.true c.requires.1)
 
 pub bounds-letters-m : goal.bounds-letters-m
-bounds-letters-m c = omega (arith, room c)
+bounds-letters-m c = omega (arith, matched_room _ _ c.loop-i.invariant c.loop-i-test.true c.window-w.ensures c.place-j.ensures c.if-j-n.true c.requires.1)
 
 pub overflow_add-m : goal.overflow_add-m
-overflow_add-m c = omega (arith, room c)
+overflow_add-m c = omega (arith, matched_room _ _ c.loop-i.invariant c.loop-i-test.true c.window-w.ensures c.place-j.ensures c.if-j-n.true c.requires.1)
 
 pub overflow_add-i : goal.overflow_add-i
 overflow_add-i c =

@@ -2,12 +2,14 @@
 -- serves is the definition's, and past the window nothing does.
 -- Assumes nothing.
 use Prim.Native.Nat.{◌-◌}
+use mathlib.Core.Bool.{not}
+use mathlib.Core.Path.{ap}
 use Rattle.cd_jaro.proofs.Loops.Place.{seeking_start, seeking_other, seeking_taken, seeking_found, seeking_end, seeking_absent}
 use Rattle.cd_jaro.proofs.place.Goals as goal
 
 pub returns-then-not-holds : goal.returns-then-not-holds
 returns-then-not-holds c =
-    seeking_absent _ _ _ _ _ c.less-start.ensures c.least-end.ensures.is c.holds.ensures c.if-not-holds.true
+    seeking_absent _ _ _ _ _ c.less-start.ensures c.least-end.ensures.is c.holds.ensures (ap not c.if-not-holds.true)
 
 pub loop-j-init : goal.loop-j-init
 loop-j-init c = seeking_start _ _ _ _ _ c.less-start.ensures

@@ -16,7 +16,7 @@ pub record_good-requires : goal.record_good-requires
 record_good-requires c = omega arith
 
 pub returns-then-not-record_good : goal.returns-then-not-record_good
-returns-then-not-record_good c = sym (first_hit _ _ _ c.loop-i-test.true (ap not (sym c.record_good.ensures) ∙ c.if-not-record_good.true)) ∙ c.loop-i.invariant.1
+returns-then-not-record_good c = sym (first_hit _ _ _ c.loop-i-test.true (ap not (sym c.record_good.ensures ∙ c.if-not-record_good.true))) ∙ c.loop-i.invariant.1
 
 pub overflow_add-i : goal.overflow_add-i
 overflow_add-i c = omega arith
@@ -25,7 +25,7 @@ pub loop-i-smaller : goal.loop-i-smaller
 loop-i-smaller c = omega arith
 
 pub loop-i-preserved : goal.loop-i-preserved
-loop-i-preserved c = (omega arith, sym (first_miss _ _ _ c.loop-i-test.true (ap not (sym c.record_good.ensures) ∙ c.if-not-record_good.false)) ∙ c.loop-i.invariant.1)
+loop-i-preserved c = (omega arith, sym (first_miss _ _ _ c.loop-i-test.true (ap not (sym c.record_good.ensures ∙ c.if-not-record_good.false))) ∙ c.loop-i.invariant.1)
 
 pub returns : goal.returns
 returns c = sym (first_end _ _ _ (omega arith)) ∙ c.loop-i.invariant.1

@@ -19,15 +19,14 @@ slot_at-requires c =
     (c.requires.0, omega (arith, c.requires.2, c.loop-k-test.true))
 
 pub loop-k-preserved : goal.loop-k-preserved
-loop-k-preserved c =
-    (
-      omega (arith, c.loop-k-test.true),
-      rw (
-        c.loop-k.invariant.1,
-        c.is_scalar-good.ensures ∙ ap scalar c.slot_at.ensures ∙ slot_used _ _ _ (rw c.requires.1 at c.loop-k-test.true),
-      )
-          (each_more (slot_good _ _) _),
-    )
+loop-k-preserved c = (
+  omega (arith, c.loop-k-test.true),
+  rw (
+    c.loop-k.invariant.1,
+    c.is_scalar-good.ensures ∙ ap scalar c.slot_at.ensures ∙ slot_used _ _ _ (rw c.requires.1 at c.loop-k-test.true),
+  )
+      (each_more (slot_good _ _) _),
+)
 
 pub returns : goal.returns
 returns c = let e : c.loop-k.k ≡ c.args.n = omega (arith, c.loop-k.invariant.0, c.loop-k-test.false) in rw e at c.loop-k.invariant.1

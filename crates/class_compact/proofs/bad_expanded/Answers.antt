@@ -20,6 +20,6 @@ slice_bounds-bad_filled-end c = simp length-take (omega (arith, c.requires.few))
 pub bad_filled-requires : goal.bad_filled-requires
 bad_filled-requires c =
     record {
-      filled = record { sized = c.requires; is = expansion_front _ _ (MOST_CLASSES * CLASS_RECORD) _ (omega (arith, c.requires.few)) c.unpack_into-ordered.ensures.1 };
-      order = c.unpack_into-ordered.ensures.0;
+      filled = record { sized = c.requires; is = expansion_front _ _ (MOST_CLASSES * CLASS_RECORD) _ (omega (arith, c.requires.few)) c.unpack_into-ordered.ensures.out_after };
+      order = c.unpack_into-ordered.ensures.value;
     }

@@ -30,22 +30,22 @@ slice_bounds-put_out-end c =
 
 pub overflow_mul-used : goal.overflow_mul-used
 overflow_mul-used c =
-    let few = letters_few _ _ c.requires c.pack_into-count.ensures.0 in omega (arith, few)
+    let few = letters_few _ _ c.requires c.pack_into-count.ensures.value in omega (arith, few)
 
 pub slice_bounds-used-end : goal.slice_bounds-used-end
 slice_bounds-used-end c =
-    let few = letters_few _ _ c.requires c.pack_into-count.ensures.0 in
+    let few = letters_few _ _ c.requires c.pack_into-count.ensures.value in
     omega (arith, few)
 
 pub slice_bounds-put_out-end-2 : goal.slice_bounds-put_out-end-2
 slice_bounds-put_out-end-2 c =
-    let few = letters_few _ _ c.requires c.pack_into-count.ensures.0 in simp length-take (omega (arith, few))
+    let few = letters_few _ _ c.requires c.pack_into-count.ensures.value in simp length-take (omega (arith, few))
 
 pub put_out-requires : goal.put_out-requires
 put_out-requires c =
     (
       c.requires,
-      records_front _ (MOST_CLASSES * COMPACT_RECORD) _ (let few = table_number _ c.requires in omega (arith, few)) c.pack_into-count.ensures.1.0,
-      letters_front _ (MOST_CLASSES * LETTERS_RECORD) _ _ c.pack_into-count.ensures.0
-          (let few = letters_few _ _ c.requires c.pack_into-count.ensures.0 in omega (arith, few)) c.pack_into-count.ensures.1.1,
+      records_front _ (MOST_CLASSES * COMPACT_RECORD) _ (let few = table_number _ c.requires in omega (arith, few)) c.pack_into-count.ensures.packed_after.0,
+      letters_front _ (MOST_CLASSES * LETTERS_RECORD) _ _ c.pack_into-count.ensures.value
+          (let few = letters_few _ _ c.requires c.pack_into-count.ensures.value in omega (arith, few)) c.pack_into-count.ensures.packed_after.1,
     )

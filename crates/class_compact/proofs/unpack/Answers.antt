@@ -6,9 +6,8 @@ use Rattle.class_compact.proofs.unpack.Goals as goal
 
 pub returns-then-out-n : goal.returns-then-out-n
 returns-then-out-n c =
-    let told = rw c.not_counted.ensures
-    (unpack_short _ _ _ (sym c.bad_compact.ensures ∙ c.in-Allowed.is) c.if-out-n.true) in
-    record { value = told.0; out_after = told.1 }
+    let told = unpack_short _ _ _ (sym c.bad_compact.ensures ∙ c.in-Allowed.is) c.if-out-n.true in
+    record { value = rw c.not_counted.ensures told.0; out_after = told.1 }
 
 pub overflow_cast-result : goal.overflow_cast-result
 overflow_cast-result c =
@@ -21,6 +20,5 @@ returns-in-Refused c =
 
 pub returns-else-out-n : goal.returns-else-out-n
 returns-else-out-n c =
-    let told = rw c.unpack_into.ensures.1
-    (unpack_done _ _ _ (sym c.bad_compact.ensures ∙ c.in-Allowed.is) c.if-out-n.false) in
-    record { value = told.0; out_after = told.1 }
+    let told = unpack_done _ _ _ (sym c.bad_compact.ensures ∙ c.in-Allowed.is) c.if-out-n.false in
+    record { value = told.0; out_after = rw c.unpack_into.ensures.out_after told.1 }

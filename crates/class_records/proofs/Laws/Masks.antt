@@ -7,7 +7,7 @@ use mathlib.Core.List.{List, [], ◌∷◌}
 use mathlib.Core.Bool.{Bool, true, false, ◌&&◌}
 use native.Mathlib.Nat.{mod-lt, mod-eq_of_lt, lt_of_le_of_lt, one-mul}
 use native.Mathlib.Omega.{arith}
-use lib.Bits.{bit_and, and_block, and_mod, and_le_l}
+use lib.Bits.{bit_and, and_comm, and_mask, and_block, and_mod, and_le_l}
 use lib.Dec.{eqb, ltb}
 use lib.ListN.{length}
 use lib.Pow.{pow_pos, split}
@@ -21,9 +21,11 @@ use Rattle.base.specs.Tests.{same}
 digit : (n : ℕ) → bit_and 1 n ≡ bump (eqb (n % 2) 1)
 digit n =
     by_bool (eqb (n % 2) 1)
-    (λ e. rw (e, eqb-true (n % 2) 1 e))
-    (λ e. let z : n % 2 ≡ 0 = rest n (eqb-false _ _ e) in rw (e, z))
+    (λ e. rw e (last ∙ eqb-true (n % 2) 1 e))
+    (λ e. rw e (last ∙ rest n (eqb-false _ _ e)))
   where
+    last : bit_and 1 n ≡ n % 2
+    last = and_comm 1 n ∙ and_mask n 1
     rest : (n : ℕ) → (n % 2 ≡ 1 → ⊥) → n % 2 ≡ 0
     rest n h = omega arith
 

@@ -1,5 +1,7 @@
 -- The walk has passed only good records and knows where they end; so what it asks of the next is that record's goodness.
 -- Assumes nothing.
+use mathlib.Core.Bool.{not}
+use mathlib.Core.Path.{ap}
 use native.Mathlib.Omega.{arith}
 use Prim.Native.Nat.{◌-◌}
 use Rattle.class_records.proofs.Loops.InOrder.{walked_start, walked_bad, walked_more, walked_end}
@@ -14,7 +16,7 @@ record_at-r-requires c = omega arith
 pub returns-then-not-span_after-r : goal.returns-then-not-span_after-r
 returns-then-not-span_after-r c =
     walked_bad _ _ _ c.loop-i.invariant c.loop-i-test.true
-    (rw (c.fields_good.ensures, c.span_after.ensures, c.record_at-r.ensures) at c.if-not-span_after-r.true)
+    (ap not (rw (c.fields_good.ensures, c.span_after.ensures, c.record_at-r.ensures) at c.if-not-span_after-r.true))
 
 pub overflow_add-i : goal.overflow_add-i
 overflow_add-i c = omega arith
@@ -25,7 +27,7 @@ loop-i-smaller c = omega arith
 pub loop-i-preserved : goal.loop-i-preserved
 loop-i-preserved c =
     rw c.record_at-r.ensures (walked_more _ _ _ c.loop-i.invariant c.loop-i-test.true
-    (rw (c.fields_good.ensures, c.span_after.ensures, c.record_at-r.ensures) at c.if-not-span_after-r.false))
+    (ap not (rw (c.fields_good.ensures, c.span_after.ensures, c.record_at-r.ensures) at c.if-not-span_after-r.false)))
 
 pub returns : goal.returns
 returns c = walked_end _ _ _ c.loop-i.invariant c.loop-i-test.false

@@ -1,6 +1,5 @@
 -- Each return is one law of the check, in 01's order.
 -- Assumes nothing.
-use borrow.Author.Tests.{not-true, not-false}
 use mathlib.Core.Path.{ap, sym, ◌∙◌}
 use native.Mathlib.Omega.{arith}
 use Rattle.base.specs.Causes.{refused_at}
@@ -21,7 +20,7 @@ overflow_cast-first_bad c =
 pub returns-then-not-none_bad : goal.returns-then-not-none_bad
 returns-then-not-none_bad c =
     c.refuse-then-not-none_bad.ensures ∙ ap (refused_at BAD_CLASSES) c.first_bad.ensures ∙ sym
-    (record_refused _ c.if-classes-ne0.false c.if-classes-gt-MOST_CLASSES.false (sym c.none_bad.ensures ∙ not-true _ c.if-not-none_bad.true))
+    (record_refused _ c.if-classes-ne0.false c.if-classes-gt-MOST_CLASSES.false (sym c.none_bad.ensures ∙ c.if-not-none_bad.true))
 
 pub returns : goal.returns
-returns c = sym (passed _ c.if-classes-ne0.false c.if-classes-gt-MOST_CLASSES.false (sym c.none_bad.ensures ∙ not-false _ c.if-not-none_bad.false))
+returns c = sym (passed _ c.if-classes-ne0.false c.if-classes-gt-MOST_CLASSES.false (sym c.none_bad.ensures ∙ c.if-not-none_bad.false))

@@ -25,30 +25,26 @@ slice_bounds-result-end-in-Second c =
 
 pub returns-in-First : goal.returns-in-First
 returns-in-First c =
-    let told = let judged = c.verdict-judged.ensures in
+    let judged = c.verdict-judged.ensures in
     let e = c.in-First.is in
     let n = first_length _ _ _ _ c.part_length-n.ensures e in
-    (n.is ∙ chosen_first _ _ _ _ _ judged e, from_first _ _ _ _ _ judged _ _ e) in
-    record { result_value = told.0; ref_ptr_value = told.1 }
+    record { result_value = n.is ∙ chosen_first _ _ _ _ _ judged e; ref_ptr_value = from_first _ _ _ _ _ judged _ _ e }
 
 pub returns-in-Second : goal.returns-in-Second
 returns-in-Second c =
-    let told = let judged = c.verdict-judged.ensures in
+    let judged = c.verdict-judged.ensures in
     let e = c.in-Second.is in
     let n = second_length _ _ _ _ c.part_length-n.ensures e in
-    (n.is ∙ chosen_second _ _ _ _ _ judged e, from_second _ _ _ _ _ judged _ _ e) in
-    record { result_value = told.0; ref_ptr_value = told.1 }
+    record { result_value = n.is ∙ chosen_second _ _ _ _ _ judged e; ref_ptr_value = from_second _ _ _ _ _ judged _ _ e }
 
 pub returns-in-FirstRefused : goal.returns-in-FirstRefused
 returns-in-FirstRefused c =
-    let told = let judged = c.verdict-judged.ensures in
+    let judged = c.verdict-judged.ensures in
     let e = c.in-FirstRefused.is in
-    (chosen_refused _ _ _ _ _ judged _ e, from_refused _ _ _ _ _ judged _ _ _ e) in
-    record { result_value = told.0; ref_ptr_value = told.1 }
+    record { result_value = chosen_refused _ _ _ _ _ judged _ e; ref_ptr_value = from_refused _ _ _ _ _ judged _ _ _ e }
 
 pub returns-in-SecondRefused : goal.returns-in-SecondRefused
 returns-in-SecondRefused c =
-    let told = let judged = c.verdict-judged.ensures in
+    let judged = c.verdict-judged.ensures in
     let e = c.in-SecondRefused.is in
-    (chosen_refused_second _ _ _ _ _ judged _ e, from_refused_second _ _ _ _ _ judged _ _ _ e) in
-    record { result_value = told.0; ref_ptr_value = told.1 }
+    record { result_value = chosen_refused_second _ _ _ _ _ judged _ e; ref_ptr_value = from_refused_second _ _ _ _ _ judged _ _ _ e }

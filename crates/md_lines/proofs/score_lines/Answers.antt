@@ -7,8 +7,8 @@ use Rattle.md_lines.proofs.score_lines.Goals as goal
 
 pub returns-then-bytes-gt-LONGEST_BURST : goal.returns-then-bytes-gt-LONGEST_BURST
 returns-then-bytes-gt-LONGEST_BURST c =
-    let told = rw c.not_counted.ensures (over _ _ _ _ _ c.if-bytes-gt-LONGEST_BURST.true) in
-    record { value = told.0; out_after = told.1 }
+    let told = over _ _ _ _ _ c.if-bytes-gt-LONGEST_BURST.true in
+    record { value = rw c.not_counted.ensures told.0; out_after = told.1 }
 
 pub overflow_mul-count : goal.overflow_mul-count
 overflow_mul-count c =
@@ -17,10 +17,9 @@ overflow_mul-count c =
 
 pub returns-then-out-count : goal.returns-then-out-count
 returns-then-out-count c =
-    let told = rw c.not_counted-then-out-count.ensures
-    (no_room_lem _ _ _ _ _ c.if-bytes-gt-LONGEST_BURST.false (sym c.check_lent.ensures ∙ c.in-Allowed.is) _
-    c.count_lines-count.ensures c.if-out-count.true) in
-    record { value = told.0; out_after = told.1 }
+    let told = no_room_lem _ _ _ _ _ c.if-bytes-gt-LONGEST_BURST.false (sym c.check_lent.ensures ∙ c.in-Allowed.is) _
+    c.count_lines-count.ensures c.if-out-count.true in
+    record { value = rw c.not_counted-then-out-count.ensures told.0; out_after = told.1 }
 
 pub put_rows-requires : goal.put_rows-requires
 put_rows-requires c =
@@ -42,7 +41,6 @@ returns-in-Refused c =
 
 pub returns-else-out-count : goal.returns-else-out-count
 returns-else-out-count c =
-    let told = rw c.put_rows.ensures
-    (scored _ _ _ _ _ c.if-bytes-gt-LONGEST_BURST.false (sym c.check_lent.ensures ∙ c.in-Allowed.is) _
-    c.count_lines-count.ensures c.if-out-count.false) in
-    record { value = told.0; out_after = told.1 }
+    let told = scored _ _ _ _ _ c.if-bytes-gt-LONGEST_BURST.false (sym c.check_lent.ensures ∙ c.in-Allowed.is) _
+    c.count_lines-count.ensures c.if-out-count.false in
+    record { value = told.0; out_after = rw c.put_rows.ensures told.1 }

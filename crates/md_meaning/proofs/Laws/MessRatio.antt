@@ -67,6 +67,13 @@ module _ (text : List ℕ) (threshold : Float) (classes pairs : List ℕ) where
     unfolding mess_ratio causes bad_lent
     ratio_scan e = behind text classes pairs (Threshold threshold) (of_lent threshold classes pairs) h e
 
+-- a cause that is not there, between others
+pub none_among : (before after : List Cause) → first_of (before ++ Allowed ∷ after) ≡ first_of (before ++ after)
+unfolding first_of
+none_among [] after = refl
+none_among (Allowed ∷ cs) after = none_among cs after
+none_among (Refused r ∷ cs) after = refl
+
 module _ (text classes pairs : List ℕ) where
   pub whole_long : LONGEST_TEXT < length text → refused TOO_LONG 0 ≡ whole_score text classes pairs
   unfolding whole_score causes_default
@@ -83,7 +90,7 @@ module _ (text classes pairs : List ℕ) where
 
   pub default_causes : causes text DEFAULT_THRESHOLD classes pairs ≡ causes_default text classes pairs
   unfolding causes causes_default first_of not_finite given
-  default_causes = rw default_finite
+  default_causes = rw default_finite (none_among (too_long text ∷ []) (of_tables classes pairs ++ no_class classes text ∷ []))
 
   pub default_same : mess_ratio text DEFAULT_THRESHOLD classes pairs ≡ mess_ratio_default text classes pairs
   unfolding mess_ratio mess_ratio_default

@@ -10,11 +10,10 @@ count_growths-count-requires c =
 
 pub returns-then-out-count : goal.returns-then-out-count
 returns-then-out-count c =
-    let told = (
-      c.unreasoned.ensures ∙ listed_short _ _ _ _ _ _ (omega (arith, c.count_growths-count.ensures, c.if-out-count.true)),
-      short_into _ _ _ _ _ _ (omega (arith, c.count_growths-count.ensures, c.if-out-count.true)),
-    ) in
-    record { value = told.0; out_after = told.1 }
+    record {
+      value = c.unreasoned.ensures ∙ listed_short _ _ _ _ _ _ (omega (arith, c.count_growths-count.ensures, c.if-out-count.true));
+      out_after = short_into _ _ _ _ _ _ (omega (arith, c.count_growths-count.ensures, c.if-out-count.true));
+    }
 
 pub put_growths-requires : goal.put_growths-requires
 put_growths-requires c =
@@ -27,8 +26,7 @@ put_growths-requires c =
 
 pub returns : goal.returns
 returns c =
-    let told = (
-      listed_told _ _ _ _ _ _ _ c.count_growths-count.ensures (omega (arith, c.count_growths-count.ensures, c.if-out-count.false)),
-      c.put_growths.ensures ∙ told_into _ _ _ _ _ _ (omega (arith, c.count_growths-count.ensures, c.if-out-count.false)),
-    ) in
-    record { value = told.0; out_after = told.1 }
+    record {
+      value = listed_told _ _ _ _ _ _ _ c.count_growths-count.ensures (omega (arith, c.count_growths-count.ensures, c.if-out-count.false));
+      out_after = c.put_growths.ensures ∙ told_into _ _ _ _ _ _ (omega (arith, c.count_growths-count.ensures, c.if-out-count.false));
+    }

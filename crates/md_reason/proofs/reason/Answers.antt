@@ -10,14 +10,12 @@ list_growths-requires c =
 
 pub returns-in-Refused : goal.returns-in-Refused
 returns-in-Refused c =
-    let told = let e = sym c.mess_ratio.ensures ∙ c.in-Refused.is in
-    (reason_refused _ _ _ _ _ e _, refused_into _ _ _ _ _ e _) in
-    record { value = told.0; out_after = told.1 }
+    let e = sym c.mess_ratio.ensures ∙ c.in-Refused.is in
+    record { value = reason_refused _ _ _ _ _ e _; out_after = refused_into _ _ _ _ _ e _ }
 
 pub returns-in-Score : goal.returns-in-Score
 returns-in-Score c =
-    let told = let e = sym c.mess_ratio.ensures ∙ c.in-Score.is in (
-      c.list_growths.ensures.0 ∙ scored_answer _ _ _ _ _ e _ c.detector_of.ensures _,
-      c.list_growths.ensures.1 ∙ scored_into _ _ _ _ _ e _ c.detector_of.ensures _,
-    ) in
-    record { value = told.0; out_after = told.1 }
+    let e = sym c.mess_ratio.ensures ∙ c.in-Score.is in record {
+      value = c.list_growths.ensures.value ∙ scored_answer _ _ _ _ _ e _ c.detector_of.ensures _;
+      out_after = c.list_growths.ensures.out_after ∙ scored_into _ _ _ _ _ e _ c.detector_of.ensures _;
+    }

@@ -9,4 +9,4 @@ record_at-r-requires c = let asked = c.requires in rw asked.is asked.held
 pub returns : goal.returns
 returns c =
     let at_pre = c.requires in
-    alike_made _ _ _ _ _ _ _ at_pre c.record_at-r.ensures c.past_stops.ensures c-stops.ensures refl
+    alike_made _ _ _ _ _ _ _ at_pre c.record_at-r.ensures c.past_stops.ensures c.before_stops.ensures refl

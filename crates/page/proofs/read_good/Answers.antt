@@ -7,19 +7,18 @@ use Rattle.page.proofs.read_good.Goals as goal
 
 pub returns-then-unused-bytes : goal.returns-then-unused-bytes
 returns-then-unused-bytes c =
-    let told = rw c.not_counted.ensures (unused _ _ _ c.requires.0 c.requires.1 _ c.first_unused_byte-unused.ensures c.if-unused-bytes.true) in
-    record { value = told.0; out_after = told.1 }
+    let told = unused _ _ _ c.requires.0 c.requires.1 _ c.first_unused_byte-unused.ensures c.if-unused-bytes.true in
+    record { value = rw c.not_counted.ensures told.0; out_after = told.1 }
 
 pub returns-then-out-bytes : goal.returns-then-out-bytes
 returns-then-out-bytes c =
-    let told = let found = c.first_unused_byte-unused.ensures in
-    rw c.not_counted-then-out-bytes.ensures (short_read _ _ _ c.requires.0 c.requires.1 (rw found at c.if-unused-bytes.false) c.if-out-bytes.true) in
-    record { value = told.0; out_after = told.1 }
+    let found = c.first_unused_byte-unused.ensures in
+    let told = short_read _ _ _ c.requires.0 c.requires.1 (rw found at c.if-unused-bytes.false) c.if-out-bytes.true in
+    record { value = rw c.not_counted-then-out-bytes.ensures told.0; out_after = told.1 }
 
 pub returns : goal.returns
 returns c =
-    let told = let found = c.first_unused_byte-unused.ensures in
+    let found = c.first_unused_byte-unused.ensures in
     let small : Below BYTES c.args.bytes.now = λ i h. omega (arith, c.shared_slice_known-2-1.given i) in
-    rw (c.points_into.ensures, points_are _ _ _ c.lay_points.ensures small)
-    (reads _ _ _ c.requires.0 c.requires.1 (rw found at c.if-unused-bytes.false) c.if-out-bytes.false) in
-    record { value = told.0; out_after = told.1 }
+    let told = reads _ _ _ c.requires.0 c.requires.1 (rw found at c.if-unused-bytes.false) c.if-out-bytes.false in
+    record { value = rw (c.points_into.ensures, points_are _ _ _ c.lay_points.ensures small) told.0; out_after = told.1 }

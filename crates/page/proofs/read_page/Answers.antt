@@ -5,8 +5,8 @@ use Rattle.page.proofs.read_page.Goals as goal
 
 pub returns-then-bytes-gt-LONGEST_TEXT : goal.returns-then-bytes-gt-LONGEST_TEXT
 returns-then-bytes-gt-LONGEST_TEXT c =
-    let told = rw c.not_counted.ensures (over_read _ _ _ c.if-bytes-gt-LONGEST_TEXT.true) in
-    record { value = told.0; out_after = told.1 }
+    let told = over_read _ _ _ c.if-bytes-gt-LONGEST_TEXT.true in
+    record { value = rw c.not_counted.ensures told.0; out_after = told.1 }
 
 pub read_good-requires : goal.read_good-requires
 read_good-requires c =

@@ -7,17 +7,17 @@ use Rattle.page.proofs.write_good.Goals as goal
 
 pub returns-then-lacking-text : goal.returns-then-lacking-text
 returns-then-lacking-text c =
-    let told = let words : Below 65536 c.args.page.now = λ i h. omega (arith, c.shared_slice_known-1.given i) in
+    let words : Below 65536 c.args.page.now = λ i h. omega (arith, c.shared_slice_known-1.given i) in
     let found = c.first_lacking-lacking.ensures ∙ lacking_at_lem _ _ c.requires.1 words c.invert.ensures _ in
-    rw c.not_counted.ensures (lacking _ _ _ c.requires.0 c.requires.1 _ found c.if-lacking-text.true) in
-    record { value = told.0; out_after = told.1 }
+    let told = lacking _ _ _ c.requires.0 c.requires.1 _ found c.if-lacking-text.true in
+    record { value = rw c.not_counted.ensures told.0; out_after = told.1 }
 
 pub returns-then-out-text : goal.returns-then-out-text
 returns-then-out-text c =
-    let told = let words : Below 65536 c.args.page.now = λ i h. omega (arith, c.shared_slice_known-1.given i) in
+    let words : Below 65536 c.args.page.now = λ i h. omega (arith, c.shared_slice_known-1.given i) in
     let found = c.first_lacking-lacking.ensures ∙ lacking_at_lem _ _ c.requires.1 words c.invert.ensures _ in
-    rw c.not_counted-then-out-text.ensures (short_write _ _ _ c.requires.0 c.requires.1 (rw found at c.if-lacking-text.false) c.if-out-text.true) in
-    record { value = told.0; out_after = told.1 }
+    let told = short_write _ _ _ c.requires.0 c.requires.1 (rw found at c.if-lacking-text.false) c.if-out-text.true in
+    record { value = rw c.not_counted-then-out-text.ensures told.0; out_after = told.1 }
 
 pub bytes_into-requires : goal.bytes_into-requires
 bytes_into-requires c =
@@ -27,9 +27,8 @@ bytes_into-requires c =
 
 pub returns : goal.returns
 returns c =
-    let told = let words : Below 65536 c.args.page.now = λ i h. omega (arith, c.shared_slice_known-1.given i) in
+    let words : Below 65536 c.args.page.now = λ i h. omega (arith, c.shared_slice_known-1.given i) in
     let found = c.first_lacking-lacking.ensures ∙ lacking_at_lem _ _ c.requires.1 words c.invert.ensures _ in
     let none = rw found at c.if-lacking-text.false in
-    rw (c.bytes_into.ensures, bytes_are _ _ c.requires.1 words c.invert.ensures _ none)
-    (writes _ _ _ c.requires.0 c.requires.1 none c.if-out-text.false) in
-    record { value = told.0; out_after = told.1 }
+    let told = writes _ _ _ c.requires.0 c.requires.1 none c.if-out-text.false in
+    record { value = rw (c.bytes_into.ensures, bytes_are _ _ c.requires.1 words c.invert.ensures _ none) told.0; out_after = told.1 }

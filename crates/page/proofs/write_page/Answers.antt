@@ -5,8 +5,8 @@ use Rattle.page.proofs.write_page.Goals as goal
 
 pub returns-then-text-gt-LONGEST_TEXT : goal.returns-then-text-gt-LONGEST_TEXT
 returns-then-text-gt-LONGEST_TEXT c =
-    let told = rw c.not_counted.ensures (over_write _ _ _ c.if-text-gt-LONGEST_TEXT.true) in
-    record { value = told.0; out_after = told.1 }
+    let told = over_write _ _ _ c.if-text-gt-LONGEST_TEXT.true in
+    record { value = rw c.not_counted.ensures told.0; out_after = told.1 }
 
 pub write_good-requires : goal.write_good-requires
 write_good-requires c =

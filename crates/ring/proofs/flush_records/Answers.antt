@@ -8,14 +8,13 @@ use Rattle.ring.proofs.flush_records.Goals as goal
 
 pub returns-then-wrong_ring : goal.returns-then-wrong_ring
 returns-then-wrong_ring c =
-    let told = rw c.ring_refused.ensures (flush_bad _ _ _ _ _ (sym c.wrong_ring.ensures ∙ c.if-wrong_ring.true)) in
-    record { value = told.0; out_after = told.1 }
+    let told = flush_bad _ _ _ _ _ (sym c.wrong_ring.ensures ∙ c.if-wrong_ring.true) in
+    record { value = rw c.ring_refused.ensures told.0; out_after = told.1 }
 
 pub returns-then-out-n : goal.returns-then-out-n
 returns-then-out-n c =
-    let told = rw c.ring_refused-then-out-n.ensures
-    (flush_room _ _ _ _ _ (sym c.wrong_ring.ensures ∙ c.if-wrong_ring.false) (rw c.lesser-n.ensures at c.if-out-n.true)) in
-    record { value = told.0; out_after = told.1 }
+    let told = flush_room _ _ _ _ _ (sym c.wrong_ring.ensures ∙ c.if-wrong_ring.false) (rw c.lesser-n.ensures at c.if-out-n.true) in
+    record { value = rw c.ring_refused-then-out-n.ensures told.0; out_after = told.1 }
 
 pub copy_records-requires : goal.copy_records-requires
 copy_records-requires c =
@@ -34,7 +33,6 @@ overflow_cast-next c =
 
 pub returns : goal.returns
 returns c =
-    let told = rw (c.ring_kept.ensures, c.wrapped-next.ensures, c.copy_records.ensures, c.lesser-n.ensures)
-    (flush_kept _ _ _ _ _ (sym c.wrong_ring.ensures ∙ c.if-wrong_ring.false)
-    (rw c.lesser-n.ensures at c.if-out-n.false)) in
-    record { value = told.0; out_after = told.1 }
+    let told = flush_kept _ _ _ _ _ (sym c.wrong_ring.ensures ∙ c.if-wrong_ring.false)
+    (rw c.lesser-n.ensures at c.if-out-n.false) in
+    record { value = rw (c.ring_kept.ensures, c.wrapped-next.ensures, c.lesser-n.ensures) told.0; out_after = rw c.copy_records.ensures told.1 }

@@ -9,17 +9,17 @@ use Rattle.ring.proofs.put_record.Goals as goal
 
 pub returns-then-wrong_ring : goal.returns-then-wrong_ring
 returns-then-wrong_ring c =
-    let told = rw c.ring_refused.ensures (put_bad _ _ _ _ (sym c.wrong_ring.ensures ∙ c.if-wrong_ring.true)) in
-    record { value = told.0; ring_after = told.1 }
+    let told = put_bad _ _ _ _ (sym c.wrong_ring.ensures ∙ c.if-wrong_ring.true) in
+    record { value = rw c.ring_refused.ensures told.0; ring_after = told.1 }
 
 pub overflow_sub-unused : goal.overflow_sub-unused
 overflow_sub-unused c = (good_ring _ _ _ (sym c.wrong_ring.ensures ∙ c.if-wrong_ring.false)).held
 
 pub returns-then-unused-eq0 : goal.returns-then-unused-eq0
 returns-then-unused-eq0 c =
-    let told = let fine = sym c.wrong_ring.ensures ∙ c.if-wrong_ring.false in
-    rw c.ring_refused-then-unused-eq0.ensures (put_full _ _ _ fine _ (omega (arith, (good_ring _ _ _ fine).held, c.if-unused-eq0.true))) in
-    record { value = told.0; ring_after = told.1 }
+    let fine = sym c.wrong_ring.ensures ∙ c.if-wrong_ring.false in
+    let told = put_full _ _ _ fine _ (omega (arith, (good_ring _ _ _ fine).held, c.if-unused-eq0.true)) in
+    record { value = rw c.ring_refused-then-unused-eq0.ensures told.0; ring_after = told.1 }
 
 pub wrapped-free-requires : goal.wrapped-free-requires
 wrapped-free-requires c =
@@ -43,7 +43,6 @@ overflow_add-count c =
 
 pub returns : goal.returns
 returns c =
-    let told = let room = c.if-unused-eq0.false in
-    rw (c.ring_kept.ensures, c.put_bytes.ensures, c.wrapped-free.ensures, c.record_of-record.ensures)
-    (put_kept _ _ _ (sym c.wrong_ring.ensures ∙ c.if-wrong_ring.false) _ (λ e. room (omega (arith, e)))) in
-    record { value = told.0; ring_after = told.1 }
+    let room = c.if-unused-eq0.false in
+    let told = put_kept _ _ _ (sym c.wrong_ring.ensures ∙ c.if-wrong_ring.false) _ (λ e. room (omega (arith, e))) in
+    record { value = rw (c.ring_kept.ensures, c.wrapped-free.ensures, c.record_of-record.ensures) told.0; ring_after = rw c.put_bytes.ensures told.1 }

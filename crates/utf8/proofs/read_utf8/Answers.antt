@@ -6,8 +6,8 @@ use Rattle.utf8.proofs.read_utf8.Goals as goal
 
 pub returns-then-out-count : goal.returns-then-out-count
 returns-then-out-count c =
-    let told = rw c.not_counted.ensures (no_room_lem _ _ _ (sym c.count_utf8.ensures ∙ c.in-Count.is) c.if-out-count.true) in
-    record { value = told.0; out_after = told.1 }
+    let told = no_room_lem _ _ _ (sym c.count_utf8.ensures ∙ c.in-Count.is) c.if-out-count.true in
+    record { value = rw c.not_counted.ensures told.0; out_after = told.1 }
 
 pub fill-requires : goal.fill-requires
 fill-requires c =
@@ -20,5 +20,5 @@ returns-in-Refused c =
 
 pub returns-else-out-count : goal.returns-else-out-count
 returns-else-out-count c =
-    let told = rw c.fill.ensures (all_read _ _ _ (sym c.count_utf8.ensures ∙ c.in-Count.is) c.if-out-count.false) in
-    record { value = told.0; out_after = told.1 }
+    let told = all_read _ _ _ (sym c.count_utf8.ensures ∙ c.in-Count.is) c.if-out-count.false in
+    record { value = told.0; out_after = rw c.fill.ensures told.1 }

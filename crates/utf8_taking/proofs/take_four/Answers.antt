@@ -1,7 +1,6 @@
 -- A sequence of four is taken, or none stands there. Assumes nothing.
 use mathlib.Core.Path.{sym, ◌∙◌}
 use native.Mathlib.Omega.{arith}
-use borrow.Author.Tests.{not-true, not-false}
 use Rattle.utf8_taking.proofs.Loops.Taking.{taken_none, taken_four, none_four}
 use Rattle.utf8_taking.proofs.take_four.Goals as goal
 
@@ -10,14 +9,14 @@ returns-then-not-is_four c =
     let p = c.requires in
     record {
       taken = taken_none _ _ _ _ (omega (arith, p.0.left));
-      none = λ e. none_four _ _ p.0.left p.1 (sym c.is_four.ensures ∙ not-true _ c.if-not-is_four.true);
+      none = λ e. none_four _ _ p.0.left p.1 (sym c.is_four.ensures ∙ c.if-not-is_four.true);
     }
 
 pub four_at-requires : goal.four_at-requires
 four_at-requires c =
     let p = c.requires in
     (taken_four _ _ _ _ _ _ _ (taken_none _ _ _ _ (omega (arith, p.0.left))) p.0 p.0.left p.1
-    (sym c.is_four.ensures ∙ not-false _ c.if-not-is_four.false)).fits
+    (sym c.is_four.ensures ∙ c.if-not-is_four.false)).fits
 
 pub returns : goal.returns
 returns c =
@@ -26,6 +25,6 @@ returns c =
     (record {
       taken =
           (taken_four _ _ _ _ _ _ _ (taken_none _ _ _ _ (omega (arith, p.0.left))) p.0 p.0.left p.1
-          (sym c.is_four.ensures ∙ not-false _ c.if-not-is_four.false)).next;
+          (sym c.is_four.ensures ∙ c.if-not-is_four.false)).next;
       none = λ e. absurd (omega (arith, e));
     })

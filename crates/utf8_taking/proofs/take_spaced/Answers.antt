@@ -1,7 +1,6 @@
 -- The sequence stands behind the ASCII byte, or over its place where there is none. Assumes nothing.
 use mathlib.Core.Path.{sym, ◌∙◌}
 use native.Mathlib.Omega.{arith}
-use borrow.Author.Tests.{not-false}
 use Rattle.utf8_meaning.proofs.Laws.Places.{yes, at_three}
 use Rattle.utf8_taking.proofs.Loops.Taking.{taken_none, taken_spaced, place_behind}
 use Rattle.utf8_taking.proofs.take_spaced.Goals as goal
@@ -24,4 +23,4 @@ returns c =
     rw (c.three_at.ensures, c.wide.ensures.is)
     (taken_spaced _ _ _ _ p.0 _ _ c.beyond_ascii-more.ensures
     (yes _ (at_three _ _ (omega (arith, p.1, c.beyond_ascii-more.ensures.small)) (omega (arith, lead)) (omega (arith, lead)))
-    (sym c.is_three.ensures ∙ not-false _ c.if-not-is_three.false)))
+    (sym c.is_three.ensures ∙ c.if-not-is_three.false)))

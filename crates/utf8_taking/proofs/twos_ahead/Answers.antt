@@ -1,6 +1,5 @@
 -- From the last to the first: one that does not stand is the first that does not. Assumes nothing.
 use native.Mathlib.Omega.{arith}
-use borrow.Author.Tests.{not-false}
 use borrow.Author.Rules.{rules}
 use Rattle.utf8_taking.proofs.Loops.Taking.{backward_start, backward_stands, backward_ends, backward_twos}
 use Rattle.utf8_taking.proofs.twos_ahead.Goals as goal
@@ -32,7 +31,7 @@ loop-j-smaller c = search rules
 pub loop-j-preserved : goal.loop-j-preserved
 loop-j-preserved c =
     backward_stands _ _ _ _ c.loop-j.invariant c.loop-j-test.true
-    (c.two_stands.ensures (not-false _ c.if-not-two_stands.false))
+    (c.two_stands.ensures c.if-not-two_stands.false)
 
 pub returns : goal.returns
 returns c = backward_twos _ _ _ _ c.loop-j.invariant (omega (arith, c.loop-j-test.false))

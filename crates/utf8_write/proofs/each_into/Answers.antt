@@ -69,5 +69,7 @@ shape_of-out c = c.loop-from.invariant.same
 
 pub returns : goal.returns
 returns c =
-    let told = (writing_count _ _ _ _ _ _ c.loop-from.invariant c.loop-from-test.false, writing_end _ _ _ _ _ _ c.loop-from.invariant c.loop-from-test.false) in
-    record { value = told.0; out_after = told.1 }
+    record {
+      value = writing_count _ _ _ _ _ _ c.loop-from.invariant c.loop-from-test.false;
+      out_after = writing_end _ _ _ _ _ _ c.loop-from.invariant c.loop-from-test.false;
+    }

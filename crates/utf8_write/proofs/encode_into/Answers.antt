@@ -38,7 +38,7 @@ loop-from-preserved c =
     let singles = c.singles_end-end.ensures in
     let w = writing_run _ _ _ _ _ _ c.loop-from.invariant _ c.past_eights-next.ensures in
     let each = c.each_into-to.ensures in
-    rw (each.0, each.1, c.narrow.ensures) (writing_part _ _ _ _ _ _ w _ singles)
+    rw (each.value, each.out_after, c.narrow.ensures) (writing_part _ _ _ _ _ _ w _ singles)
 
 pub shape_of-out : goal.shape_of-out
 shape_of-out c = c.loop-from.invariant.same

@@ -14,7 +14,7 @@ loop-i-init c = (omega arith, first_start _ _)
 
 pub returns-then-not-in_table : goal.returns-then-not-in_table
 returns-then-not-in_table c =
-    sym (first_hit _ _ _ c.loop-i-test.true (ap not (sym c.in_table.ensures) ∙ c.if-not-in_table.true)) ∙ c.loop-i.invariant.1
+    sym (first_hit _ _ _ c.loop-i-test.true (ap not (sym c.in_table.ensures ∙ c.if-not-in_table.true))) ∙ c.loop-i.invariant.1
 
 pub overflow_add-i : goal.overflow_add-i
 overflow_add-i c = omega arith
@@ -24,7 +24,7 @@ loop-i-smaller c = omega arith
 
 pub loop-i-preserved : goal.loop-i-preserved
 loop-i-preserved c =
-    (omega arith, sym (first_miss _ _ _ c.loop-i-test.true (ap not (sym c.in_table.ensures) ∙ c.if-not-in_table.false)) ∙ c.loop-i.invariant.1)
+    (omega arith, sym (first_miss _ _ _ c.loop-i-test.true (ap not (sym c.in_table.ensures ∙ c.if-not-in_table.false))) ∙ c.loop-i.invariant.1)
 
 pub returns : goal.returns
 returns c = sym (first_end _ _ _ (omega arith)) ∙ c.loop-i.invariant.1

@@ -16,8 +16,10 @@ use Rattle.cd_languages.proofs.slots.read_letters.Goals as goal
 
 below : (t : List ℕ) (i n k : ℕ) → n ≡ letter_count t i → k < n → k < length (letters_of t i)
 below t i n k e h = omega (arith, letters_length t i)
+
 ended : (t : List ℕ) (i n k : ℕ) → n ≡ letter_count t i → n ≤ k → length (letters_of t i) ≤ k
 ended t i n k e h = omega (arith, letters_length t i)
+
 pub count_at-n-requires : goal.count_at-n-requires
 count_at-n-requires c = c.requires.1
 
@@ -53,5 +55,4 @@ pub returns : goal.returns
 returns c = (
   c.count_at-n.ensures,
   putting_end _ 0 _ c.loop-k.invariant (ended _ _ _ _ c.count_at-n.ensures c.loop-k-test.false),
-
 )

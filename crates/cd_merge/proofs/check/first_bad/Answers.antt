@@ -13,14 +13,14 @@ loop-i-init c = (omega arith, first_start _ _)
 
 pub returns-then-not-is_score : goal.returns-then-not-is_score
 returns-then-not-is_score c =
-    sym (first_hit _ _ _ (rw c.entries-n.ensures at c.loop-i-test.true) (ap not (sym c.is_score.ensures) ∙ c.if-not-is_score.true))
+    sym (first_hit _ _ _ (rw c.entries-n.ensures at c.loop-i-test.true) (ap not (sym c.is_score.ensures ∙ c.if-not-is_score.true)))
     ∙ c.loop-i.invariant.1
 
 pub loop-i-preserved : goal.loop-i-preserved
 loop-i-preserved c =
     (
       omega (arith, c.entries-n.ensures, c.loop-i-test.true),
-      sym (first_miss _ _ _ (rw c.entries-n.ensures at c.loop-i-test.true) (ap not (sym c.is_score.ensures) ∙ c.if-not-is_score.false)) ∙ c.loop-i.invariant.1,
+      sym (first_miss _ _ _ (rw c.entries-n.ensures at c.loop-i-test.true) (ap not (sym c.is_score.ensures ∙ c.if-not-is_score.false))) ∙ c.loop-i.invariant.1,
     )
 
 pub returns : goal.returns

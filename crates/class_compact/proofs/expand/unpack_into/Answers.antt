@@ -45,5 +45,7 @@ shape_of-out c =
 pub returns : goal.returns
 unfolding unpacked
 returns c =
-    let told = (seen_end _ _ _ _ _ c.loop-i.invariant.1 c.loop-i-test.false, laying_end _ _ _ _ c.loop-i.invariant.0 c.loop-i-test.false) in
-    record { value = told.0; out_after = told.1 }
+    record {
+      value = seen_end _ _ _ _ _ c.loop-i.invariant.1 c.loop-i-test.false;
+      out_after = laying_end _ _ _ _ c.loop-i.invariant.0 c.loop-i-test.false;
+    }

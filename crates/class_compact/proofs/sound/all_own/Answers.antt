@@ -1,7 +1,6 @@
 -- The letters before k are their own and noted. Assumes nothing.
 use Prim.Native.Nat.{◌-◌}
 use Rattle.class_compact_meaning.proofs.Laws.Own.{owning_start, owning_more, owning_end, owning_fails}
-use borrow.Author.Tests.{not-true, not-false}
 use mathlib.Core.Path.{sym, ◌∙◌}
 use native.Mathlib.Omega.{arith}
 use Rattle.class_compact.proofs.sound.all_own.Goals as goal
@@ -16,11 +15,11 @@ is_own-requires c =
 
 pub returns-then-not-is_own : goal.returns-then-not-is_own
 returns-then-not-is_own c =
-    owning_fails _ _ c.loop-k-test.true (sym c.is_own.ensures.is ∙ not-true _ c.if-not-is_own.true)
+    owning_fails _ _ c.loop-k-test.true (sym c.is_own.ensures.is ∙ c.if-not-is_own.true)
 
 pub loop-k-preserved : goal.loop-k-preserved
 loop-k-preserved c =
-    owning_more _ _ _ c.loop-k.invariant _ _ c.loop-k-test.true c.is_own.ensures (not-false _ c.if-not-is_own.false)
+    owning_more _ _ _ c.loop-k.invariant _ _ c.loop-k-test.true c.is_own.ensures c.if-not-is_own.false
 
 pub returns : goal.returns
 returns c =

@@ -33,12 +33,12 @@ space-requires c =
     let asked = c.requires in
     let step = lower_step _ _ _ _ _ _ asked.0 asked.1 asked.2 _ ended.ensures _ _ _ c.last_range.ensures
     c.is_suspicious-suspicious.ensures c.is_suspicious-again.ensures _ c.lower_run-t.ensures in
-    spaced_room _ _ _ _ _ asked.0.tables asked.0.short step (c-space.ensures c.if-before_space.true)
+    spaced_room _ _ _ _ _ asked.0.tables asked.0.short step (c.before_space.ensures c.if-before_space.true)
 
 pub overflow_add-result : goal.overflow_add-result
 overflow_add-result c =
     let asked = c.requires in
-    let spaced = c-space.ensures c.if-before_space.true in
+    let spaced = c.before_space.ensures c.if-before_space.true in
     omega (arith, spaced.inside, asked.0.short)
 
 pub returns-then-before_space : goal.returns-then-before_space
@@ -47,7 +47,7 @@ returns-then-before_space c =
     let asked = c.requires in
     let step = lower_step _ _ _ _ _ _ asked.0 asked.1 asked.2 _ ended.ensures _ _ _ c.last_range.ensures
     c.is_suspicious-suspicious.ensures c.is_suspicious-again.ensures _ c.lower_run-t.ensures in
-    advanced_spaced _ _ _ _ _ asked.0.tables asked.0.short step (c-space.ensures c.if-before_space.true) _ c.space.ensures
+    advanced_spaced _ _ _ _ _ asked.0.tables asked.0.short step (c.before_space.ensures c.if-before_space.true) _ c.space.ensures
 
 pub returns : goal.returns
 returns c =

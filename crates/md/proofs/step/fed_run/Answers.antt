@@ -24,19 +24,19 @@ pub space-requires : goal.space-requires
 space-requires c =
     let asked = c.requires in
     spaced_room _ _ _ _ _ asked.0.tables asked.0.short (advanced_as _ _ _ _ _ c.fed_word-f.ensures _ c.slimmed-slim.ensures)
-    (c-space.ensures c.if-before_space.true)
+    (c.before_space.ensures c.if-before_space.true)
 
 pub overflow_add-result : goal.overflow_add-result
 overflow_add-result c =
     let asked = c.requires in
-    let spaced = c-space.ensures c.if-before_space.true in
+    let spaced = c.before_space.ensures c.if-before_space.true in
     omega (arith, spaced.inside, asked.0.short)
 
 pub returns-then-before_space : goal.returns-then-before_space
 returns-then-before_space c =
     let asked = c.requires in
     advanced_spaced _ _ _ _ _ asked.0.tables asked.0.short (advanced_as _ _ _ _ _ c.fed_word-f.ensures _ c.slimmed-slim.ensures)
-    (c-space.ensures c.if-before_space.true) _ c.space.ensures
+    (c.before_space.ensures c.if-before_space.true) _ c.space.ensures
 
 pub returns : goal.returns
 returns c =

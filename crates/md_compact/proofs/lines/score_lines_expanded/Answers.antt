@@ -21,6 +21,6 @@ slice_bounds-score_lines_table-end c =
 pub score_lines_table-requires : goal.score_lines_table-requires
 score_lines_table-requires c =
     record {
-      filled = record { sized = c.requires; is = expansion_front _ _ (MOST_CLASSES * CLASS_RECORD) _ (omega (arith, c.requires.few)) c.unpack_into-ordered.ensures.1 };
-      order = c.unpack_into-ordered.ensures.0;
+      filled = record { sized = c.requires; is = expansion_front _ _ (MOST_CLASSES * CLASS_RECORD) _ (omega (arith, c.requires.few)) c.unpack_into-ordered.ensures.out_after };
+      order = c.unpack_into-ordered.ensures.value;
     }

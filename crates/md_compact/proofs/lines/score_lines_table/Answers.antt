@@ -13,6 +13,5 @@ returns-in-Refused c =
 
 pub returns-in-Allowed : goal.returns-in-Allowed
 returns-in-Allowed c =
-    let told = let same = lines_scored _ _ _ _ _ _ c.requires.filled.sized _ c.requires.filled.is (sym c.beyond_table.ensures ∙ c.in-Allowed.is) in
-    (c.score_lines.ensures.0 ∙ same.0, c.score_lines.ensures.1 ∙ same.1) in
-    record { value = told.0; out_after = told.1 }
+    let same = lines_scored _ _ _ _ _ _ c.requires.filled.sized _ c.requires.filled.is (sym c.beyond_table.ensures ∙ c.in-Allowed.is) in
+    record { value = c.score_lines.ensures.value ∙ same.0; out_after = c.score_lines.ensures.out_after ∙ same.1 }

@@ -9,4 +9,4 @@ feed_cased-requires c = (c.requires.0.archaic, c.requires.2)
 pub returns : goal.returns
 unfolding cased_run
 returns c =
-    simp (c.feed_run.ensures, c.feed_run-accents.ensures, c.feed_run.ensures, c.feed_run-2.ensures, c.feed_run-3.ensures, c.feed_run-4.ensures, c.feed_run-5.ensures, c.feed_cased.ensures)
+    simp (c.feed_run-stops.ensures, c.feed_run-accents.ensures, c.feed_run.ensures, c.feed_run-2.ensures, c.feed_run-3.ensures, c.feed_run-4.ensures, c.feed_run-5.ensures, c.feed_cased.ensures)

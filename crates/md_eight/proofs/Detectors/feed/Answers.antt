@@ -5,4 +5,4 @@ use Rattle.md_eight.proofs.Detectors.feed.Goals as goal
 pub returns : goal.returns
 unfolding feed
 returns c =
-    simp (c.feed.ensures, c.feed-accents.ensures, c.feed.ensures, c.feed-2.ensures, c.feed-3.ensures, c.feed-4.ensures, c.feed-5.ensures, c.feed-6.ensures)
+    simp (c.feed-stops.ensures, c.feed-accents.ensures, c.feed.ensures, c.feed-2.ensures, c.feed-3.ensures, c.feed-4.ensures, c.feed-5.ensures, c.feed-6.ensures)

@@ -2,7 +2,6 @@
 use mathlib.Core.Path.{sym, ◌∙◌}
 use Prim.Native.Nat.{◌-◌}
 use native.Mathlib.Omega.{arith}
-use borrow.Author.Tests.{not-false}
 use Rattle.md_lines_meaning.proofs.Laws.Lines.{passing_start, passing_on}
 use Rattle.md_lines.proofs.split.past_line_eights.Goals as goal
 
@@ -13,7 +12,7 @@ pub returns-then-not-eight_in_line : goal.returns-then-not-eight_in_line
 returns-then-not-eight_in_line c = c.loop-j.invariant
 
 pub loop-j-preserved : goal.loop-j-preserved
-loop-j-preserved c = passing_on _ _ _ 7 c.loop-j.invariant (omega arith) (sym c.eight_in_line.ensures ∙ not-false _ c.if-not-eight_in_line.false)
+loop-j-preserved c = passing_on _ _ _ 7 c.loop-j.invariant (omega arith) (sym c.eight_in_line.ensures ∙ c.if-not-eight_in_line.false)
 
 pub returns : goal.returns
 returns c = c.loop-j.invariant

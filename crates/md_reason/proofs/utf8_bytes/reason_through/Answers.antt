@@ -9,8 +9,7 @@ slice_bounds-reason-end-2 c = simp length-take (omega arith)
 
 pub returns : goal.returns
 returns c =
-    let told = (
-      rw (c.reason.ensures.0, c.fill.ensures, text_back _ _ _ c.requires.0.count),
-      rw (c.reason.ensures.1, c.fill.ensures, text_back _ _ _ c.requires.0.count),
-    ) in
-    record { value = told.0; out_after = told.1 }
+    record {
+      value = rw (c.reason.ensures.value, c.fill.ensures, text_back _ _ _ c.requires.0.count);
+      out_after = rw (c.reason.ensures.out_after, c.fill.ensures, text_back _ _ _ c.requires.0.count);
+    }

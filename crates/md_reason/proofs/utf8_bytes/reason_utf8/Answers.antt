@@ -10,12 +10,13 @@ reason_read-requires c =
 
 pub returns-in-Refused : goal.returns-in-Refused
 returns-in-Refused c =
-    let told = let e = sym c.count_utf8.ensures ∙ c.in-Refused.is in
-    (unread _ _ _ _ _ e _, unread_into _ _ _ _ _ e _) in
-    record { value = told.0; out_after = told.1 }
+    let e = sym c.count_utf8.ensures ∙ c.in-Refused.is in
+    record { value = unread _ _ _ _ _ e _; out_after = unread_into _ _ _ _ _ e _ }
 
 pub returns-in-Count : goal.returns-in-Count
 returns-in-Count c =
-    let told = let e = sym c.count_utf8.ensures ∙ c.in-Count.is in
-    (c.reason_read.ensures.0 ∙ read _ _ _ _ _ e _, c.reason_read.ensures.1 ∙ read_into_lem _ _ _ _ _ e _) in
-    record { value = told.0; out_after = told.1 }
+    let e = sym c.count_utf8.ensures ∙ c.in-Count.is in
+    record {
+      value = c.reason_read.ensures.value ∙ read _ _ _ _ _ e _;
+      out_after = c.reason_read.ensures.out_after ∙ read_into_lem _ _ _ _ _ e _;
+    }

@@ -1,7 +1,6 @@
 -- The built-in table has the characters of the blocks passed. Assumes nothing.
 use Prim.Native.Nat.{◌-◌}
 use native.Mathlib.Omega.{arith}
-use borrow.Author.Tests.{not-false}
 use Rattle.md_rest.proofs.Loops.Whole.{passed_start, passed_more}
 use Rattle.md_rest.proofs.whole.past_builtin.Goals as goal
 
@@ -23,7 +22,7 @@ loop-i-smaller c = omega (arith, c.block_end-end.ensures.0, c.block_end-end.ensu
 pub loop-i-preserved : goal.loop-i-preserved
 loop-i-preserved c =
     let at_block_end = c.block_end-end in
-    passed_more _ _ _ _ _ c.loop-i.invariant c.all_builtin.ensures (not-false _ c.if-not-all_builtin.false)
+    passed_more _ _ _ _ _ c.loop-i.invariant c.all_builtin.ensures c.if-not-all_builtin.false
     at_block_end.ensures.0 at_block_end.ensures.1
 
 pub returns : goal.returns

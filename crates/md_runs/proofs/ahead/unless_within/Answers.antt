@@ -9,5 +9,5 @@ returns-then-high-low c = record { least = λ h. absurd (omega arith); most = λ
 
 pub returns : goal.returns
 returns c =
-    let d = unwrapped _ _ _ _ c.wrapping_sub_u32.ensures c.if-high-low.false c.requires c.ranges.high.fits in
+    let d = unwrapped _ _ _ _ c.wrapping_sub_u32.ensures.value c.if-high-low.false c.requires c.ranges.high.fits in
     record { least = λ h. omega (arith, d); most = λ h. omega (arith, d, c.if-high-low.false, c.requires) }

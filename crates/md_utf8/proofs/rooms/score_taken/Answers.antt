@@ -10,27 +10,27 @@ use Rattle.md_utf8.proofs.rooms.score_taken.Goals as goal
 
 pub slice_bounds-scan_text_in-end : goal.slice_bounds-scan_text_in-end
 slice_bounds-scan_text_in-end c =
-    let r = readable _ _ (sym c.take_utf8.ensures.0 ∙ c.in-Count.is) in
+    let r = readable _ _ (sym c.take_utf8.ensures.value ∙ c.in-Count.is) in
     omega (arith, r.count, text_few c.args.bytes.now, c.requires.0)
 
 pub slice_bounds-scan_text_in-end-in-Count : goal.slice_bounds-scan_text_in-end-in-Count
 slice_bounds-scan_text_in-end-in-Count c =
-    let r = readable _ _ (sym c.take_utf8.ensures.0 ∙ c.in-Count.is) in
+    let r = readable _ _ (sym c.take_utf8.ensures.value ∙ c.in-Count.is) in
     simp length-take (omega (arith, r.count, text_few c.args.bytes.now, c.requires.0))
 
 pub scan_text_in-requires : goal.scan_text_in-requires
 scan_text_in-requires c =
-    let r = readable _ _ (sym c.take_utf8.ensures.0 ∙ c.in-Count.is) in
-    rw (r.count, c.take_utf8.ensures.1) (lendable_ready _ _ _ _ c.requires.2 _ (omega (arith, r.few, r.count)))
+    let r = readable _ _ (sym c.take_utf8.ensures.value ∙ c.in-Count.is) in
+    rw (r.count, c.take_utf8.ensures.out_after) (lendable_ready _ _ _ _ c.requires.2 _ (omega (arith, r.few, r.count)))
 
 pub returns-in-Refused : goal.returns-in-Refused
 returns-in-Refused c =
-    unread _ _ _ _ _ (sym c.take_utf8.ensures.0 ∙ c.in-Refused.is)
+    unread _ _ _ _ _ (sym c.take_utf8.ensures.value ∙ c.in-Refused.is)
 
 pub returns-in-Count : goal.returns-in-Count
 returns-in-Count c =
-    let counted = sym c.take_utf8.ensures.0 ∙ c.in-Count.is in
+    let counted = sym c.take_utf8.ensures.value ∙ c.in-Count.is in
     let r = readable _ _ counted in
     read _ _ _ _ _ counted _
-    (rw (c.scan_text_in.ensures, r.count, c.take_utf8.ensures.1)
+    (rw (c.scan_text_in.ensures, r.count, c.take_utf8.ensures.out_after)
     (lendable_scan _ _ _ _ c.requires.2 _ (omega (arith, r.few, r.count))))

@@ -7,7 +7,7 @@ use Rattle.page.proofs.inverse.first_lacking.Given as goal
 
 abbrev pub invariant-loop-i : goal.invariant-loop-i
 invariant-loop-i l =
-    (l.i ≤ length l.text) × (first_from (λ l.i. lacking l.inverse (get_or l.text l.i 0)) (length l.text) l.i ≡ first_lacking l.inverse l.text)
+    (l.i ≤ length l.text) × (first_from (λ j. lacking l.inverse (get_or l.text j 0)) (length l.text) l.i ≡ first_lacking l.inverse l.text)
 
 abbrev pub decreases-loop-i : goal.decreases-loop-i
 decreases-loop-i l = length l.text - l.i

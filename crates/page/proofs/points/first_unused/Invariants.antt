@@ -9,7 +9,7 @@ use Rattle.page.proofs.points.first_unused.Given as goal
 
 abbrev pub invariant-loop-i : goal.invariant-loop-i
 invariant-loop-i l =
-    (l.i ≤ length l.bytes) × (first_from (λ l.i. eqb (get_or l.points (get_or l.bytes l.i 0) 0) UNUSED) (length l.bytes) l.i ≡ first_unused l.points l.bytes)
+    (l.i ≤ length l.bytes) × (first_from (λ j. eqb (get_or l.points (get_or l.bytes j 0) 0) UNUSED) (length l.bytes) l.i ≡ first_unused l.points l.bytes)
 
 abbrev pub decreases-loop-i : goal.decreases-loop-i
 decreases-loop-i l = length l.bytes - l.i

@@ -2,7 +2,6 @@
 use mathlib.Core.Path.{sym, ◌∙◌}
 use Prim.Native.Nat.{◌-◌}
 use native.Mathlib.Omega.{arith}
-use borrow.Author.Tests.{not-false}
 use Rattle.utf8_meaning.proofs.Laws.Ascii.{run_none, run_eight}
 use Rattle.utf8.proofs.ascii.past_eights.Goals as goal
 
@@ -13,7 +12,7 @@ pub returns-then-not-eight_ascii : goal.returns-then-not-eight_ascii
 returns-then-not-eight_ascii c = c.loop-j.invariant
 
 pub loop-j-preserved : goal.loop-j-preserved
-loop-j-preserved c = run_eight _ _ _ c.loop-j.invariant (omega arith) (sym c.eight_ascii.ensures ∙ not-false _ c.if-not-eight_ascii.false)
+loop-j-preserved c = run_eight _ _ _ c.loop-j.invariant (omega arith) (sym c.eight_ascii.ensures ∙ c.if-not-eight_ascii.false)
 
 pub returns : goal.returns
 returns c = c.loop-j.invariant

@@ -13,11 +13,11 @@ loop-i-init c = (omega arith, first_start _ _)
 
 pub returns-then-not-has_form : goal.returns-then-not-has_form
 returns-then-not-has_form c =
-    sym (first_hit _ _ _ c.loop-i-test.true (ap not (sym c.has_form.ensures) ∙ c.if-not-has_form.true)) ∙ c.loop-i.invariant.1
+    sym (first_hit _ _ _ c.loop-i-test.true (ap not (sym c.has_form.ensures ∙ c.if-not-has_form.true))) ∙ c.loop-i.invariant.1
 
 pub loop-i-preserved : goal.loop-i-preserved
 loop-i-preserved c =
-    (omega arith, sym (first_miss _ _ _ c.loop-i-test.true (ap not (sym c.has_form.ensures) ∙ c.if-not-has_form.false)) ∙ c.loop-i.invariant.1)
+    (omega arith, sym (first_miss _ _ _ c.loop-i-test.true (ap not (sym c.has_form.ensures ∙ c.if-not-has_form.false))) ∙ c.loop-i.invariant.1)
 
 pub returns : goal.returns
 returns c = sym (first_end _ _ _ (omega arith)) ∙ c.loop-i.invariant.1
