@@ -2,7 +2,6 @@
 // here; cd_taken has those that run.
 #![tactic(auto)]
 
-
 // What the work area holds of a character: its own range and its lower-case letter; 0 and 0 of one that is not taken.
 #[derive(Clone, Copy)]
 pub struct Letter {

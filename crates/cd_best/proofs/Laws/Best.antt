@@ -76,11 +76,11 @@ best_attained [] p r e = absurd (true≢false (sym e))
 best_attained (h ∷ hits) p r e =
     let b : Float = best_score hits r in
     let rest = best_attained hits (λ k j. p k (inr j)) r in
-    by_bool (eqb h.at r)
-    (λ q. rw q
-    (by_test (λ (z : Float). In (record { at = r; score = z }) (h ∷ hits)) (le b h.score) h.score b
+    by_test (λ (z : Float). In (record { at = r; score = z }) (h ∷ hits)) (eqb h.at r) (higher h.score b) b
+    (λ q.
+    by_test (λ (z : Float). In (record { at = r; score = z }) (h ∷ hits)) (le b h.score) h.score b
     (λ l. inl (ap (λ (k : ℕ). record { at = k; score = h.score }) (sym (eqb-true h.at r q))))
     (λ l. by_bool (has_match hits r)
     (λ m. inr (rest m))
-    (λ m. absurd (true≢false (sym (p h (inl refl)).not_negative ∙ ap (λ (z : Float). le z h.score) (sym (best_none hits r m)) ∙ l))))))
-    (λ q. rw q (inr (rest (rw q at e))))
+    (λ m. absurd (true≢false (sym (p h (inl refl)).not_negative ∙ ap (λ (z : Float). le z h.score) (sym (best_none hits r m)) ∙ l)))))
+    (λ q. inr (rest (rw q at e)))

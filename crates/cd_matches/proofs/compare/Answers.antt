@@ -23,21 +23,19 @@ score_at-score-requires c =
     (c.requires.0, c.requires.1 _ c.loop-i-test.true, c.requires.3, omega (arith, c.loop-i.invariant.1))
 
 pub loop-i-preserved-then-score-threshold : goal.loop-i-preserved-then-score-threshold
-loop-i-preserved-then-score-threshold c =
-    (
-      walk_below _ _ _ _ c.loop-i.invariant.0 c.loop-i-test.true (scores_length _ _ _)
-          (rw (score_is c.args.languages.now c.args.order.now c.args.records.now c.loop-i.i c.loop-i-test.true _
-          c.score_at-score.ensures) at c.if-score-threshold.true),
-      omega arith,
-    )
+loop-i-preserved-then-score-threshold c = (
+  walk_below _ _ _ _ c.loop-i.invariant.0 c.loop-i-test.true (scores_length _ _ _)
+      (rw (score_is c.args.languages.now c.args.order.now c.args.records.now c.loop-i.i c.loop-i-test.true _
+      c.score_at-score.ensures) at c.if-score-threshold.true),
+  omega arith,
+)
 
 pub keep-s-requires : goal.keep-s-requires
-keep-s-requires c =
-    (
-      omega (arith, c.requires.1 c.loop-i.i c.loop-i-test.true, good_most c.args.languages.now c.requires.0),
-      omega
-          (arith, c.loop-i.invariant.0.few, c.loop-i-test.true, c.requires.2, c.requires.4),
-    )
+keep-s-requires c = (
+  omega (arith, c.requires.1 c.loop-i.i c.loop-i-test.true, good_most c.args.languages.now c.requires.0),
+  omega
+      (arith, c.loop-i.invariant.0.few, c.loop-i-test.true, c.requires.2, c.requires.4),
+)
 
 pub returns-then-n-ge-ENOUGH : goal.returns-then-n-ge-ENOUGH
 returns-then-n-ge-ENOUGH c =
@@ -48,15 +46,14 @@ returns-then-n-ge-ENOUGH c =
     c.score_at-score.ensures) at c.keep-s.ensures) c.if-n-ge-ENOUGH.true
 
 pub loop-i-preserved : goal.loop-i-preserved
-loop-i-preserved c =
-    (
-      walk_on _ _ _ _ c.loop-i.invariant.0 c.loop-i-test.true (scores_length _ _ _)
-          (rw (score_is c.args.languages.now c.args.order.now c.args.records.now c.loop-i.i c.loop-i-test.true _
-          c.score_at-score.ensures) at c.if-score-threshold.false) _
-          (rw (score_is c.args.languages.now c.args.order.now c.args.records.now c.loop-i.i c.loop-i-test.true _
-          c.score_at-score.ensures) at c.keep-s.ensures) c.if-n-ge-ENOUGH.false,
-      omega arith,
-    )
+loop-i-preserved c = (
+  walk_on _ _ _ _ c.loop-i.invariant.0 c.loop-i-test.true (scores_length _ _ _)
+      (rw (score_is c.args.languages.now c.args.order.now c.args.records.now c.loop-i.i c.loop-i-test.true _
+      c.score_at-score.ensures) at c.if-score-threshold.false) _
+      (rw (score_is c.args.languages.now c.args.order.now c.args.records.now c.loop-i.i c.loop-i-test.true _
+      c.score_at-score.ensures) at c.keep-s.ensures) c.if-n-ge-ENOUGH.false,
+  omega arith,
+)
 
 pub returns : goal.returns
 returns c = walk_end _ _ _ _ c.loop-i.invariant.0 c.loop-i-test.false

@@ -12,14 +12,13 @@ pub slice_bounds-compare-end : goal.slice_bounds-compare-end
 slice_bounds-compare-end c = put_count c.match_records-n.ensures
 
 pub compare-requires : goal.compare-requires
-compare-requires c =
-    (
-      c.requires.0,
-      front_below _ _ _ _ c.requires.0 c.requires.1 c.match_records-n.ensures,
-      front_few _ _ _ _ c.requires.0 c.requires.1 c.match_records-n.ensures,
-      c.requires.2,
-      c.requires.3,
-    )
+compare-requires c = (
+  c.requires.0,
+  front_below _ _ _ _ c.requires.0 c.requires.1 c.match_records-n.ensures,
+  front_few _ _ _ _ c.requires.0 c.requires.1 c.match_records-n.ensures,
+  c.requires.2,
+  c.requires.3,
+)
 
 pub returns : goal.returns
 returns c =

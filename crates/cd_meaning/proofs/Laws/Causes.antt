@@ -3,7 +3,7 @@
 use Prim.Native.Nat.{ℕ, ◌*◌, ◌≤◌, ◌<◌}
 use mathlib.Core.Path.{◌≡◌, refl, sym, ◌∙◌}
 use mathlib.Core.Bool.{Bool, true, false, ◌||◌}
-use mathlib.Core.List.{List}
+use mathlib.Core.List.{List, ◌∷◌}
 use native.Mathlib.Omega.{arith}
 use lib.Dec.{ltb}
 use lib.Ieee.{Float}
@@ -85,6 +85,12 @@ module _ (text classes pairs t included : List ℕ) (work room : ℕ) where
       unfolding causes first_of too_long not_finite given refused_at
       cause_on e c o = o ∙ rw (le-ltb LONGEST_RANKED (length text) h, e)
 
+-- a second cause that is none is passed
+passed_second : (c : Cause) (causes : List Cause) → first_of (c ∷ Allowed ∷ causes) ≡ first_of (c ∷ causes)
+unfolding first_of
+passed_second Allowed causes = refl
+passed_second (Refused r) causes = refl
+
 -- ---- where there is no cause
 pub or_free : (a b : Bool) → a || b ≡ false → (a ≡ false) × (b ≡ false)
 or_free true b e = absurd (no (told b e))
@@ -140,4 +146,4 @@ module _ (text classes pairs t included : List ℕ) (work room : ℕ) where
   pub default_causes : (threshold : Float) → is_finite threshold ≡ true
       → causes text threshold classes pairs t included work room ≡ causes_default text classes pairs t included work room
   unfolding causes causes_default first_of not_finite given
-  default_causes threshold e = rw e
+  default_causes threshold e = rw e (passed_second (too_long text) (of_tables text classes pairs t included work room))

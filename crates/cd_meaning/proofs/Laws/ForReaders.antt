@@ -26,7 +26,7 @@ use Rattle.base.proofs.Laws.All.{all_so}
 use Rattle.cd_ranking.proofs.Laws.Ranking.{Pairs, Told, ranking_falls, ranking_ties, ranking_once, ranking_told, ranking_all, ranking_few, matched_all, matched_best, hits_rankable}
 use Rattle.cd_meaning.specs.Inner.Causes.{Free}
 use Rattle.cd_meaning.specs.Coherence.{matches_of}
-use Rattle.cd_meaning.specs.KeptMatches.{layers_kept, kept_of}
+use Rattle.cd_meaning.specs.KeptMatches.{layer_kept, layers_kept, kept_of}
 use Rattle.cd_meaning.proofs.Laws.Kept.{kept_threshold, kept_layer}
 use Rattle.cd_meaning.proofs.Laws.Fits.{kept_known}
 
@@ -42,7 +42,7 @@ module _ (threshold : Float) (small : ℕ) (classes t included : List ℕ) where
       ≡ layers_kept threshold small classes t included (layers_kept threshold small classes t included hits ys) (y ∷ [])
   unfolding layers_kept
   layers_more hits [] y = refl
-  layers_more hits (x ∷ ys) y = layers_more _ ys y
+  layers_more hits (x ∷ ys) y = layers_more (layer_kept threshold small classes t included hits x.letters) ys y
 
   abbrev pub kept_after : List Layer → List Hit
   kept_after ys = layers_kept threshold small classes t included [] ys

@@ -40,7 +40,7 @@ module _ (threshold : Float) (small : ℕ) (classes t included : List ℕ) where
       ≡ layers_kept threshold small classes t included (layers_kept threshold small classes t included hits ys) zs
   unfolding layers_kept
   layers_split hits [] zs = refl
-  layers_split hits (y ∷ ys) zs = layers_split _ ys zs
+  layers_split hits (y ∷ ys) zs = layers_split (layer_kept threshold small classes t included hits y.letters) ys zs
 
 -- what was sufficient stays so
 sufficient_more : (hits more : List Hit) → sufficient_in hits ≤ sufficient_in (hits ++ more)

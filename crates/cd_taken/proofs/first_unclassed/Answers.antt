@@ -24,11 +24,10 @@ returns-then-is_unclassed c =
 
 pub loop-i-preserved : goal.loop-i-preserved
 unfolding unclassed_at
-loop-i-preserved c =
-    (
-      omega (arith, c.loop-i-test.true),
-      sym (first_miss _ _ _ c.loop-i-test.true (sym c.is_unclassed.ensures ∙ c.if-is_unclassed.false)) ∙ c.loop-i.invariant.1,
-    )
+loop-i-preserved c = (
+  omega (arith, c.loop-i-test.true),
+  sym (first_miss _ _ _ c.loop-i-test.true (sym c.is_unclassed.ensures ∙ c.if-is_unclassed.false)) ∙ c.loop-i.invariant.1,
+)
 
 pub returns : goal.returns
 returns c = sym (first_end _ _ _ (omega (arith, c.loop-i.invariant.0, c.loop-i-test.false))) ∙ c.loop-i.invariant.1

@@ -21,4 +21,4 @@ returns c =
     let found = c.first_unused_byte-unused.ensures in
     let small : Below BYTES c.args.bytes.now = λ i h. omega (arith, c.shared_slice_known-2-1.given i) in
     let told = reads _ _ _ c.requires.0 c.requires.1 (rw found at c.if-unused-bytes.false) c.if-out-bytes.false in
-    record { value = rw (c.points_into.ensures, points_are _ _ _ c.lay_points.ensures small) told.0; out_after = told.1 }
+    record { value = told.0; out_after = rw (c.points_into.ensures, points_are _ _ _ c.lay_points.ensures small) told.1 }

@@ -31,4 +31,4 @@ returns c =
     let found = c.first_lacking-lacking.ensures ∙ lacking_at_lem _ _ c.requires.1 words c.invert.ensures _ in
     let none = rw found at c.if-lacking-text.false in
     let told = writes _ _ _ c.requires.0 c.requires.1 none c.if-out-text.false in
-    record { value = rw (c.bytes_into.ensures, bytes_are _ _ c.requires.1 words c.invert.ensures _ none) told.0; out_after = told.1 }
+    record { value = told.0; out_after = rw (c.bytes_into.ensures, bytes_are _ _ c.requires.1 words c.invert.ensures _ none) told.1 }

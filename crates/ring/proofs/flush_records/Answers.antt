@@ -35,4 +35,4 @@ pub returns : goal.returns
 returns c =
     let told = flush_kept _ _ _ _ _ (sym c.wrong_ring.ensures ∙ c.if-wrong_ring.false)
     (rw c.lesser-n.ensures at c.if-out-n.false) in
-    record { value = rw (c.ring_kept.ensures, c.wrapped-next.ensures, c.lesser-n.ensures) told.0; out_after = rw c.copy_records.ensures told.1 }
+    record { value = rw (c.ring_kept.ensures, c.wrapped-next.ensures, c.lesser-n.ensures) told.0; out_after = rw (c.copy_records.ensures, c.lesser-n.ensures) told.1 }

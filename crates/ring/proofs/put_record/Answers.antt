@@ -45,4 +45,4 @@ pub returns : goal.returns
 returns c =
     let room = c.if-unused-eq0.false in
     let told = put_kept _ _ _ (sym c.wrong_ring.ensures ∙ c.if-wrong_ring.false) _ (λ e. room (omega (arith, e))) in
-    record { value = rw (c.ring_kept.ensures, c.wrapped-free.ensures, c.record_of-record.ensures) told.0; ring_after = rw c.put_bytes.ensures told.1 }
+    record { value = rw c.ring_kept.ensures told.0; ring_after = rw (c.put_bytes.ensures, c.wrapped-free.ensures, c.record_of-record.ensures) told.1 }

@@ -38,19 +38,17 @@ slice_bounds-read_order-end c =
     )
 
 pub read_order-requires : goal.read_order-requires
-read_order-requires c =
-    (
-      c.requires.0,
-      standing_few c.args.threshold c.args.small c.args.classes.now c.args.languages.now
-          c.args.included.now _ _ _ c.requires.1 c.args.s c.rank-d.ensures c.order_start-start.ensures
-          c.requires.2,
-      c.requires.3,
-    )
+read_order-requires c = (
+  c.requires.0,
+  standing_few c.args.threshold c.args.small c.args.classes.now c.args.languages.now
+      c.args.included.now _ _ _ c.requires.1 c.args.s c.rank-d.ensures c.order_start-start.ensures
+      c.requires.2,
+  c.requires.3,
+)
 
 pub returns : goal.returns
-returns c =
-    (
-      layer_taken _ _ _ _ _ _ _ _ c.requires.1 _ c.rank-d.ensures c.order_start-start.ensures
-          (rw c.size.ensures at c.if-size-small.false) _ c.read_order.ensures,
-      ranked_kept _ _ _ c.rank-d.ensures c.requires.1,
-    )
+returns c = (
+  layer_taken _ _ _ _ _ _ _ _ c.requires.1 _ c.rank-d.ensures c.order_start-start.ensures
+      (rw c.size.ensures at c.if-size-small.false) _ c.read_order.ensures,
+  ranked_kept _ _ _ c.rank-d.ensures c.requires.1,
+)

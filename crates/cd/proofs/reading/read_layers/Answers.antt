@@ -17,13 +17,12 @@ overflow_cast-k c =
     omega (arith, c.loop-k-test.true, c.requires.3)
 
 pub read_layer-s-requires : goal.read_layer-s-requires
-read_layer-s-requires c =
-    (
-      c.requires.0,
-      read_room _ _ _ _ _ _ _ _ c.loop-k.invariant c.requires.1,
-      read_undotted _ _ _ _ _ _ _ _ c.loop-k.invariant c.requires.2,
-      read_bound _ _ _ _ _ _ _ _ c.loop-k.invariant c.requires.3,
-    )
+read_layer-s-requires c = (
+  c.requires.0,
+  read_room _ _ _ _ _ _ _ _ c.loop-k.invariant c.requires.1,
+  read_undotted _ _ _ _ _ _ _ _ c.loop-k.invariant c.requires.2,
+  read_bound _ _ _ _ _ _ _ _ c.loop-k.invariant c.requires.3,
+)
 
 pub loop-k-preserved : goal.loop-k-preserved
 loop-k-preserved c =

@@ -17,11 +17,10 @@ returns-then-not-is_score c =
     ∙ c.loop-i.invariant.1
 
 pub loop-i-preserved : goal.loop-i-preserved
-loop-i-preserved c =
-    (
-      omega (arith, c.entries-n.ensures, c.loop-i-test.true),
-      sym (first_miss _ _ _ (rw c.entries-n.ensures at c.loop-i-test.true) (ap not (sym c.is_score.ensures ∙ c.if-not-is_score.false))) ∙ c.loop-i.invariant.1,
-    )
+loop-i-preserved c = (
+  omega (arith, c.entries-n.ensures, c.loop-i-test.true),
+  sym (first_miss _ _ _ (rw c.entries-n.ensures at c.loop-i-test.true) (ap not (sym c.is_score.ensures ∙ c.if-not-is_score.false))) ∙ c.loop-i.invariant.1,
+)
 
 pub returns : goal.returns
 returns c =
