@@ -67,12 +67,18 @@ module _ (text : List ℕ) (threshold : Float) (classes pairs : List ℕ) where
     unfolding mess_ratio causes bad_lent
     ratio_scan e = behind text classes pairs (Threshold threshold) (of_lent threshold classes pairs) h e
 
--- a cause that is not there, between others
-pub none_among : (before after : List Cause) → first_of (before ++ Allowed ∷ after) ≡ first_of (before ++ after)
+-- a cause that is not there, behind the first
+none_between : (a : Cause) (cs : List Cause) → first_of (a ∷ Allowed ∷ cs) ≡ first_of (a ∷ cs)
 unfolding first_of
-none_among [] after = refl
-none_among (Allowed ∷ cs) after = none_among cs after
-none_among (Refused r ∷ cs) after = refl
+none_between Allowed cs = refl
+none_between (Refused r) cs = refl
+
+-- behind other causes, two lists that give the same give the same
+pub behind_same : (front one other : List Cause) → first_of one ≡ first_of other → first_of (front ++ one) ≡ first_of (front ++ other)
+unfolding first_of
+behind_same [] one other e = e
+behind_same (Allowed ∷ cs) one other e = behind_same cs one other e
+behind_same (Refused r ∷ cs) one other e = refl
 
 module _ (text classes pairs : List ℕ) where
   pub whole_long : LONGEST_TEXT < length text → refused TOO_LONG 0 ≡ whole_score text classes pairs
@@ -90,7 +96,7 @@ module _ (text classes pairs : List ℕ) where
 
   pub default_causes : causes text DEFAULT_THRESHOLD classes pairs ≡ causes_default text classes pairs
   unfolding causes causes_default first_of not_finite given
-  default_causes = rw default_finite (none_among (too_long text ∷ []) (of_tables classes pairs ++ no_class classes text ∷ []))
+  default_causes = rw default_finite (none_between (too_long text) (of_tables classes pairs ++ no_class classes text ∷ []))
 
   pub default_same : mess_ratio text DEFAULT_THRESHOLD classes pairs ≡ mess_ratio_default text classes pairs
   unfolding mess_ratio mess_ratio_default

@@ -3,7 +3,7 @@
 -- Assumes nothing.
 use Prim.Native.Nat.{ℕ}
 use mathlib.Core.Path.{◌≡◌, sym, ap, ◌∙◌}
-use mathlib.Core.List.{List, [], ◌∷◌}
+use mathlib.Core.List.{List, [], ◌∷◌, ◌++◌}
 use lib.Ieee.{Float}
 use lib.ListN.{length, take, drop}
 use lib.Seq.{take_at}
@@ -23,14 +23,12 @@ use Rattle.md_meaning.specs.declared.Limit.TheVariants.{Threshold}
 use Rattle.md_meaning.specs.declared.Scored.{Scored}
 use Rattle.md_meaning.specs.declared.Scored.TheVariants.{Refused}
 use Rattle.ratio.specs.Finite.{not_finite}
-use Rattle.classes.specs.Check.{bad_classes}
-use Rattle.classes.specs.Pairs.{bad_pairs}
-use Rattle.md_meaning.specs.MessRatio.{DEFAULT_THRESHOLD, too_long, of_scoring, causes, mess_ratio}
+use Rattle.md_meaning.specs.MessRatio.{DEFAULT_THRESHOLD, of_scoring, of_scoring_default, causes, causes_default, mess_ratio}
 use Rattle.md_meaning.specs.Inner.Plain.{PlainAnswer}
 use Rattle.md_meaning.proofs.Laws.Plain.{ratio_plain}
-use Rattle.md_meaning.specs.Scan.{accepted_score, no_class, unless}
+use Rattle.md_meaning.specs.Scan.{accepted_score, unless}
 use Rattle.md_meaning.proofs.Laws.Scan.{unless_allowed, unless_refused, unless_score}
-use Rattle.md_meaning.proofs.Laws.MessRatio.{default_finite, none_among}
+use Rattle.md_meaning.proofs.Laws.MessRatio.{default_causes, behind_same}
 use Rattle.md_utf8_meaning.specs.ScoreUtf8.{causes_utf8, causes_utf8_default, mess_ratio_utf8, mess_ratio_utf8_default}
 
 module _ (bytes : List ℕ) (threshold : Float) (classes pairs : List ℕ) where
@@ -65,9 +63,7 @@ text_back text out n e = ap (take n) (put_first out text) ∙ take_at text (drop
 
 -- 0.2 is finite, so that the only cause between the two is never given
 pub default_same_utf8 : (bytes classes pairs : List ℕ) → mess_ratio_utf8 bytes DEFAULT_THRESHOLD classes pairs ≡ mess_ratio_utf8_default bytes classes pairs
-unfolding mess_ratio_utf8 mess_ratio_utf8_default causes_utf8 causes_utf8_default first_of not_finite given
+unfolding mess_ratio_utf8 mess_ratio_utf8_default causes_utf8 causes_utf8_default causes causes_default
 default_same_utf8 bytes classes pairs =
-    let text = text_of bytes in
-    let room = many_bytes bytes ∷ ill_formed bytes ∷ many_points bytes ∷ too_long text ∷ [] in
-    let rest = bad_classes classes ∷ bad_pairs pairs ∷ no_class classes text ∷ [] in
-    rw (default_finite, none_among room rest)
+    ap (λ (c : Cause). unless c (accepted_score classes pairs (text_of bytes) (Threshold DEFAULT_THRESHOLD)))
+    (behind_same (many_bytes bytes ∷ ill_formed bytes ∷ many_points bytes ∷ []) _ _ (default_causes (text_of bytes) classes pairs))
