@@ -14,22 +14,19 @@ score_taken-requires c =
 pub through-requires : goal.through-requires
 through-requires c =
     let counted = c.count_utf8 in
-    let met = c.count-1 in
     let asked = c.requires in
-    (readable _ _ (sym counted.ensures ∙ met.given.1), c.if-n-room.true, asked.0)
+    (readable _ _ (sym counted.ensures ∙ c.in-Count.is), c.if-n-room.true, asked.0)
 
 pub returns-then-n-room : goal.returns-then-n-room
 returns-then-n-room c =
     let counted = c.count_utf8 in
-    let met = c.count-1 in
-    read _ _ _ _ _ (sym counted.ensures ∙ met.given.1) _ c.through.ensures
+    read _ _ _ _ _ (sym counted.ensures ∙ c.in-Count.is) _ c.through.ensures
 
 pub score_larger-requires : goal.score_larger-requires
 score_larger-requires c =
     let counted = c.count_utf8 in
-    let met = c.count-1 in
     let asked = c.requires in
-    (readable _ _ (sym counted.ensures ∙ met.given.1), asked.0)
+    (readable _ _ (sym counted.ensures ∙ c.in-Count.is), asked.0)
 
 pub returns-in-Refused : goal.returns-in-Refused
 returns-in-Refused c = unread _ _ _ _ _ (sym c.count_utf8.ensures ∙ c.in-Refused.is)
@@ -37,5 +34,4 @@ returns-in-Refused c = unread _ _ _ _ _ (sym c.count_utf8.ensures ∙ c.in-Refus
 pub returns-else-n-room : goal.returns-else-n-room
 returns-else-n-room c =
     let counted = c.count_utf8 in
-    let met = c.count-1 in
-    read _ _ _ _ _ (sym counted.ensures ∙ met.given.1) _ c.score_larger.ensures
+    read _ _ _ _ _ (sym counted.ensures ∙ c.in-Count.is) _ c.score_larger.ensures
