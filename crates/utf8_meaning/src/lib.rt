@@ -2,7 +2,6 @@
 // utf8_taking have those that run.
 #![tactic(auto)]
 
-
 // What bytes are: well-formed, with this many code points, or faulty from this place on.
 #[derive(Clone, Copy)]
 pub enum Measured {

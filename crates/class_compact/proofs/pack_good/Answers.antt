@@ -42,10 +42,9 @@ slice_bounds-put_out-end-2 c =
     let few = letters_few _ _ c.requires c.pack_into-count.ensures.value in simp length-take (omega (arith, few))
 
 pub put_out-requires : goal.put_out-requires
-put_out-requires c =
-    (
-      c.requires,
-      records_front _ (MOST_CLASSES * COMPACT_RECORD) _ (let few = table_number _ c.requires in omega (arith, few)) c.pack_into-count.ensures.packed_after.0,
-      letters_front _ (MOST_CLASSES * LETTERS_RECORD) _ _ c.pack_into-count.ensures.value
-          (let few = letters_few _ _ c.requires c.pack_into-count.ensures.value in omega (arith, few)) c.pack_into-count.ensures.packed_after.1,
-    )
+put_out-requires c = (
+  c.requires,
+  records_front _ (MOST_CLASSES * COMPACT_RECORD) _ (let few = table_number _ c.requires in omega (arith, few)) c.pack_into-count.ensures.packed_after.0,
+  letters_front _ (MOST_CLASSES * LETTERS_RECORD) _ _ c.pack_into-count.ensures.value
+      (let few = letters_few _ _ c.requires c.pack_into-count.ensures.value in omega (arith, few)) c.pack_into-count.ensures.packed_after.1,
+)

@@ -26,6 +26,7 @@ digit n =
   where
     last : bit_and 1 n ≡ n % 2
     last = and_comm 1 n ∙ and_mask n 1
+
     rest : (n : ℕ) → (n % 2 ≡ 1 → ⊥) → n % 2 ≡ 0
     rest n h = omega arith
 

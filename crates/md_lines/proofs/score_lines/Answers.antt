@@ -22,12 +22,11 @@ returns-then-out-count c =
     record { value = rw c.not_counted-then-out-count.ensures told.0; out_after = told.1 }
 
 pub put_rows-requires : goal.put_rows-requires
-put_rows-requires c =
-    (
-      c.if-bytes-gt-LONGEST_BURST.false,
-      sym c.check_lent.ensures ∙ c.in-Allowed.is,
-      omega (arith, c.count_lines-count.ensures, c.if-out-count.false),
-    )
+put_rows-requires c = (
+  c.if-bytes-gt-LONGEST_BURST.false,
+  sym c.check_lent.ensures ∙ c.in-Allowed.is,
+  omega (arith, c.count_lines-count.ensures, c.if-out-count.false),
+)
 
 pub overflow_cast-result : goal.overflow_cast-result
 overflow_cast-result c =

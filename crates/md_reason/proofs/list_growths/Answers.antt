@@ -16,13 +16,12 @@ returns-then-out-count c =
     }
 
 pub put_growths-requires : goal.put_growths-requires
-put_growths-requires c =
-    (
-      record { tables = c.requires.0; short = c.requires.1; builtin = c.table-table.ensures },
-      c.requires.2,
-      c.requires.3,
-      omega (arith, c.count_growths-count.ensures, c.if-out-count.false),
-    )
+put_growths-requires c = (
+  record { tables = c.requires.0; short = c.requires.1; builtin = c.table-table.ensures },
+  c.requires.2,
+  c.requires.3,
+  omega (arith, c.count_growths-count.ensures, c.if-out-count.false),
+)
 
 pub returns : goal.returns
 returns c =

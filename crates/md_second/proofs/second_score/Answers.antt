@@ -11,11 +11,10 @@ pub returns-then-not-is_finite : goal.returns-then-not-is_finite
 returns-then-not-is_finite c = c.second_refused-then-not-is_finite.ensures ∙ agreed_unbounded _ _ _ _ c.if-text-gt-SECOND_LONGEST.false (sym c.is_finite.ensures ∙ c.if-not-is_finite.true)
 
 pub second_scan-requires : goal.second_scan-requires
-second_scan-requires c =
-    (
-      free_tables _ _ (sym c.bad_classes.ensures ∙ c.in-Allowed.is) (sym c.bad_pairs.ensures ∙ c.in-Allowed-bad_pairs.is),
-      c.if-text-gt-SECOND_LONGEST.false,
-    )
+second_scan-requires c = (
+  free_tables _ _ (sym c.bad_classes.ensures ∙ c.in-Allowed.is) (sym c.bad_pairs.ensures ∙ c.in-Allowed-bad_pairs.is),
+  c.if-text-gt-SECOND_LONGEST.false,
+)
 
 pub returns-in-Refused : goal.returns-in-Refused
 returns-in-Refused c =

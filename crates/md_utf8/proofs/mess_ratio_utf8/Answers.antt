@@ -8,11 +8,10 @@ use Rattle.md_utf8_meaning.proofs.Laws.ScoreUtf8.{unread, read}
 use Rattle.md_utf8.proofs.mess_ratio_utf8.Goals as goal
 
 pub score_read-requires : goal.score_read-requires
-score_read-requires c =
-    (
-      readable _ _ (sym c.count_utf8.ensures ∙ c.in-Count.is),
-      lendable _ _ _ _ (sym c.check_lent.ensures ∙ c.in-Allowed.is) c.table-table.ensures,
-    )
+score_read-requires c = (
+  readable _ _ (sym c.count_utf8.ensures ∙ c.in-Count.is),
+  lendable _ _ _ _ (sym c.check_lent.ensures ∙ c.in-Allowed.is) c.table-table.ensures,
+)
 
 pub returns-in-Refused : goal.returns-in-Refused
 returns-in-Refused c =

@@ -6,5 +6,6 @@ use Rattle.replay_jaro.proofs.main.Goals as goal
 
 abbrev CASE_BYTES : ℕ
 CASE_BYTES = 33828
+
 pub slice_bounds-same_case-end : goal.slice_bounds-same_case-end
 slice_bounds-same_case-end c = replaying_case c.loop-t.invariant.0

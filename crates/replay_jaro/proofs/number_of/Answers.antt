@@ -12,12 +12,15 @@ use Rattle.replay_jaro.proofs.number_of.Goals as goal
 nought : of_bits binary64 0 ≡ NOUGHT
 unfolding of_bits
 nought = refl
+
 eighth : of_bits binary64 0x3FC0000000000000 ≡ EIGHTH
 unfolding of_bits
 eighth = refl
+
 one : of_bits binary64 0x3FF0000000000000 ≡ ONE
 unfolding of_bits
 one = refl
+
 pub returns-then-u-gt-ONE_BITS : goal.returns-then-u-gt-ONE_BITS
 returns-then-u-gt-ONE_BITS c = inl nought
 

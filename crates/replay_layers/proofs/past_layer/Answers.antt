@@ -20,13 +20,12 @@ overflow_add-next-3 c =
     omega (arith, sized _ _ _ _ c.requires.1 c.size-c.ensures, ranked_few _ _ _ c.rank-d.ensures (roomy _ _ c.requires.1 c.requires.2), c.requires.0, c.requires.2)
 
 pub same_ranking-requires : goal.same_ranking-requires
-same_ranking-requires c =
-    (
-      omega (arith, sized _ _ _ _ c.requires.1 c.size-c.ensures, c.requires.0, c.requires.2),
-      ranked_few _ _ _ c.rank-d.ensures (roomy _ _ c.requires.1 c.requires.2),
-      omega (arith, c.requires.1, c.work-1.given),
-      c.requires.2,
-    )
+same_ranking-requires c = (
+  omega (arith, sized _ _ _ _ c.requires.1 c.size-c.ensures, c.requires.0, c.requires.2),
+  ranked_few _ _ _ c.rank-d.ensures (roomy _ _ c.requires.1 c.requires.2),
+  omega (arith, c.requires.1, c.work-1.given),
+  c.requires.2,
+)
 
 pub overflow_add-result : goal.overflow_add-result
 overflow_add-result c =

@@ -5,10 +5,9 @@ use borrow.Author.Rules.{rules}
 use Rattle.replay_layers.proofs.same_text.Goals as goal
 
 pub same_layers-requires : goal.same_layers-requires
-same_layers-requires c =
-    (
-      search rules,
-      omega (arith, c.requires.2, c.work-1.given, c.work-2-1.given, c.work-3-1.given),
-      c.requires.0,
-      split_few _ _ _ _ _ c.alpha_unicode_split-count.ensures c.set_ranges.ensures.ranges,
-    )
+same_layers-requires c = (
+  search rules,
+  omega (arith, c.requires.2, c.work-1.given, c.work-2-1.given, c.work-3-1.given),
+  c.requires.0,
+  split_few _ _ _ _ _ c.alpha_unicode_split-count.ensures c.set_ranges.ensures.ranges,
+)

@@ -12,5 +12,6 @@ numbers : (s : Detectors) → Countable s → Numbers (ratios s)
 numbers s h =
     let p = fractions_proper (counts s) h in
     record { each = ratios_plain (fractions s) p; sum = sum_plain (fractions s) p }
+
 pub returns : goal.returns
 returns c = rw c.ratios.ensures (numbers c.args.s c.requires)

@@ -32,11 +32,10 @@ lay-requires c =
     rw (c.expanded-record.ensures, expansion_length) (laying_room _ _ _ _ c.loop-i.invariant.0 c.loop-i-test.true)
 
 pub loop-i-preserved : goal.loop-i-preserved
-loop-i-preserved c =
-    (
-      laying_more _ _ _ _ c.loop-i.invariant.0 c.loop-i-test.true _ _ c.expanded-record.ensures c.lay.ensures,
-      seen_more _ _ _ _ _ _ c.loop-i.invariant.1 c.loop-i-test.true c.place_of-place.ensures c.pick-seen.ensures,
-    )
+loop-i-preserved c = (
+  laying_more _ _ _ _ c.loop-i.invariant.0 c.loop-i-test.true _ _ c.expanded-record.ensures c.lay.ensures,
+  seen_more _ _ _ _ _ _ c.loop-i.invariant.1 c.loop-i-test.true c.place_of-place.ensures c.pick-seen.ensures,
+)
 
 pub shape_of-out : goal.shape_of-out
 shape_of-out c =

@@ -19,11 +19,10 @@ returns-then-bad_letters c =
     { is = seeking_hit _ _ c.loop-k.invariant.0 c.loop-k-test.true (sym c.bad_letters.ensures.is ∙ c.if-bad_letters.true); small = c.loop-k.invariant.1 }
 
 pub loop-k-preserved : goal.loop-k-preserved
-loop-k-preserved c =
-    (
-      seeking_more _ _ c.loop-k.invariant.0 c.loop-k-test.true (sym c.bad_letters.ensures.is ∙ c.if-bad_letters.false),
-      c.bad_letters.ensures.small c.if-bad_letters.false,
-    )
+loop-k-preserved c = (
+  seeking_more _ _ c.loop-k.invariant.0 c.loop-k-test.true (sym c.bad_letters.ensures.is ∙ c.if-bad_letters.false),
+  c.bad_letters.ensures.small c.if-bad_letters.false,
+)
 
 pub returns : goal.returns
 unfolding first_bad_letters

@@ -29,6 +29,7 @@ none i n h k = absurd (no h k)
   where
     no : n < i → i < n → ⊥
     no a b = omega arith
+
 pub returns : goal.returns
 unfolding first_use
 returns c =

@@ -7,6 +7,7 @@ use Rattle.class_compact.proofs.form.place_of.Goals as goal
 
 moved : (i : ℕ) → i * COMPACT_RECORD + 12 + 2 ≡ i * COMPACT_RECORD + 14
 moved i = omega arith
+
 pub returns : goal.returns
 unfolding place_at
 returns c = record { is = rw (moved _) at c.u32_at.ensures.high; small = omega arith }

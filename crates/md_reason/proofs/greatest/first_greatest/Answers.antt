@@ -33,12 +33,11 @@ pub loop-k-smaller : goal.loop-k-smaller
 loop-k-smaller c = omega arith
 
 pub loop-k-preserved : goal.loop-k-preserved
-loop-k-preserved c =
-    (
-      omega arith,
-      sym (first_miss _ _ _ c.loop-k-test.true (rw (ratio_read _ _ c.loop-k-test.true) at (sym c.at_least_all.ensures ∙ c.if-at_least_all.false)))
-          ∙ c.loop-k.invariant.1,
-    )
+loop-k-preserved c = (
+  omega arith,
+  sym (first_miss _ _ _ c.loop-k-test.true (rw (ratio_read _ _ c.loop-k-test.true) at (sym c.at_least_all.ensures ∙ c.if-at_least_all.false)))
+      ∙ c.loop-k.invariant.1,
+)
 
 pub returns : goal.returns
 returns c = sym (first_end _ _ _ (omega arith)) ∙ c.loop-k.invariant.1

@@ -5,12 +5,11 @@ use Rattle.md_reason.proofs.Laws.Steps.{fed_range, watched_range, fed_watchable,
 use Rattle.md_reason.proofs.growing.watched_after.Goals as goal
 
 pub is_suspicious-suspicious-requires : goal.is_suspicious-suspicious-requires
-is_suspicious-suspicious-requires c =
-    (
-      c.requires.0.tables.fits,
-      rw (c.last_range.ensures, c.requires.2) (watched_range _ _ _ c.requires.0.tables.good _),
-      rw c.fed_class-c.ensures (fed_range _ _ c.requires.0.tables.good _),
-    )
+is_suspicious-suspicious-requires c = (
+  c.requires.0.tables.fits,
+  rw (c.last_range.ensures, c.requires.2) (watched_range _ _ _ c.requires.0.tables.good _),
+  rw c.fed_class-c.ensures (fed_range _ _ c.requires.0.tables.good _),
+)
 
 pub watch-requires : goal.watch-requires
 watch-requires c =

@@ -4,6 +4,7 @@ use Rattle.md_runs.proofs.ahead.unless_within.Goals as goal
 
 unwrapped : (w p low high : ℕ) → (w + low) % 2 ^ 32 ≡ p → w ≤ high - low → low ≤ high → high < 2 ^ 32 → w + low ≡ p
 unwrapped w p low high e a b h = sym (mod-eq_of_lt (omega (arith, a, b, h))) ∙ e
+
 pub returns-then-high-low : goal.returns-then-high-low
 returns-then-high-low c = record { least = λ h. absurd (omega arith); most = λ h. absurd (omega arith) }
 
