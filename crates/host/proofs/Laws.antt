@@ -1,11 +1,6 @@
 pub mod Chosen
 pub mod Compact
 pub mod Export
-pub mod Fed
 pub mod Host
-pub mod Lent
-pub mod Looked
 pub mod Matches
-pub mod Stored
-pub mod Tokens
 pub mod Why

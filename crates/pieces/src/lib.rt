@@ -13,7 +13,9 @@ pub fn put_piece(out: &mut [u8], at: usize, piece: &[u8]) -> usize
     requires { at + length piece.now ≤ length out.old }
     ensures { Goes out.old out.new at piece.now result }
 {
-    at + bytes::copy(piece, &mut out[at..])
+    let end = at + piece.len();
+    out[at..end].copy_from_slice(piece);
+    end
 }
 
 // Puts a word and a number in decimal behind it.

@@ -1,7 +1,7 @@
 // The program: the bytes of standard input in, the line for standard output out. `report` is the whole of it; `run` only reads and writes.
 #![tactic(auto)]
 
-ghost use Rattle.std.specs.Prelude.{◌≡◌};
+ghost use Rattle.std.specs.Prelude.{◌≡◌, ◌≤◌, length, IfOk};
 ghost use Rattle.md_utf8_meaning.specs.ScoreUtf8.{mess_ratio_utf8};
 ghost use Rattle.program.specs.Program as program;
 ghost use Rattle.program.specs.Line.{Reported};
@@ -12,6 +12,8 @@ use line::{put_refused, put_score};
 use md::unscored;
 use md_meaning::Scored;
 use md_utf8::mess_ratio_utf8;
+use std::io;
+use std::io::Read;
 
 pub mod line;
 
@@ -23,10 +25,6 @@ pub const LINE: usize = 64;
 
 // One byte more than is scored, so that a longer input is seen to be longer.
 const ROOM: usize = LONGEST_INPUT + 1;
-
-const STDIN: i32 = 0;
-
-const STDOUT: i32 = 1;
 
 // f32 0.2, at which the program scores.
 const THRESHOLD: f32 = 0.2;
@@ -66,11 +64,27 @@ pub fn report(bytes: &[u8], out: &mut [u8; LINE]) -> usize
     }
 }
 
+// Reads standard input until buf is full or the input ends, and answers how many bytes were put at the start of buf. No contract can say which.
+pub fn read_input(rt: &impl Input, buf: &mut [u8]) -> io::Result<usize>
+    ensures { IfOk result (λ n. n ≤ length buf.new) }
+{
+    let mut input = rt.reader();
+    let mut done = 0;
+    while done < buf.len() {
+        let n = input.read(&mut buf[done..])?;
+        if n == 0 {
+            return Ok(done);
+        }
+        done += n;
+    }
+    Ok(done)
+}
+
 // Reads standard input and writes its line. No contract can say what is read or written.
-pub fn run() {
+pub fn run(rt: &(impl Input + Print)) -> io::Result<()> {
     let mut input = [0u8; ROOM];
-    let n = io::read_full(STDIN, &mut input);
+    let n = read_input(rt, &mut input)?;
     let mut out = [0u8; LINE];
     let k = report(&input[..n], &mut out);
-    io::write_all(STDOUT, &out[..k]);
+    rt.write_all(&out[..k])
 }

@@ -8,10 +8,8 @@ ghost use Rattle.replay.specs.Inner.Sizes.{FRONT, Fits};
 ghost use Rattle.replay.specs.Inner.Tally.{Sound, Tallied, Started, Turned};
 
 use base::{one, pick, u32_at};
-
-const STDIN: i32 = 0;
-
-const STDOUT: i32 = 1;
+use std::io;
+use std::io::Read;
 
 // bytes of a word
 pub const WORD: usize = 4;
@@ -34,17 +32,17 @@ pub struct Tally {
     pub size: usize,
 }
 
-// A case, put at the front of buf: its size, or 0 where the list has ended. A case that buf cannot hold is cut to buf's length.
-pub fn read_case(buf: &mut [u8]) -> usize
+// A case of standard input, put at the front of buf: its size, or 0 where the list has ended. A case that buf cannot hold is cut to buf's length.
+pub fn read_case(rt: &impl Input, buf: &mut [u8]) -> usize
     ensures { Fits result buf.old buf.new }
 {
+    let mut input = rt.reader();
     let mut head = [0u8; WORD];
-    let got = io::read_full(STDIN, &mut head);
-    if got < WORD {
+    if input.read_exact(&mut head).is_err() {
         return 0;
     }
     let n = least(word(&head, 0) as usize, buf.len());
-    io::read_full(STDIN, &mut buf[..n]);
+    let _ = input.read_exact(&mut buf[..n]);
     n
 }
 
@@ -61,10 +59,10 @@ pub fn no_cases() -> Tally
 }
 
 // Reads the first case: nothing is compared yet.
-pub fn first_case(buf: &mut [u8]) -> Tally
+pub fn first_case(rt: &impl Input, buf: &mut [u8]) -> Tally
     ensures { Started result buf.old buf.new }
 {
-    let size = read_case(buf);
+    let size = read_case(rt, buf);
     Tally {
         cases: 0,
         differ: 0,
@@ -92,7 +90,7 @@ pub fn tallied(t: Tally, same: bool) -> Tally
 }
 
 // The case in the buffer was compared: counts it, and reads the next in its place.
-pub fn next_case(buf: &mut [u8], t: Tally, same: bool) -> Tally
+pub fn next_case(rt: &impl Input, buf: &mut [u8], t: Tally, same: bool) -> Tally
     requires { Sound t × (0 < t.size) }
     ensures { Turned t result buf.old buf.new }
 {
@@ -105,7 +103,7 @@ pub fn next_case(buf: &mut [u8], t: Tally, same: bool) -> Tally
             size: 0,
         };
     }
-    let size = read_case(buf);
+    let size = read_case(rt, buf);
     Tally {
         cases: c.cases,
         differ: c.differ,
@@ -202,14 +200,12 @@ pub fn float_of(bits: u32) -> f32 {
 }
 
 // The program's verdict, a line: how many cases there were, how many differ, and the first that does.
-pub fn say(t: Tally) {
-    io::print_decimal(STDOUT, t.cases as u64);
-    io::write_all(STDOUT, b" cases, ");
-    io::print_decimal(STDOUT, t.differ as u64);
-    io::write_all(STDOUT, b" differ");
-    if t.differ > 0 {
-        io::write_all(STDOUT, b", first case ");
-        io::print_decimal(STDOUT, t.first as u64);
+pub fn say(rt: &impl Print, t: Tally) -> io::Result<()> {
+    let cases = t.cases;
+    let differ = t.differ;
+    if differ > 0 {
+        let first = t.first;
+        return println!(rt; "{cases} cases, {differ} differ, first case {first}");
     }
-    io::write_all(STDOUT, b"\n");
+    println!(rt; "{cases} cases, {differ} differ")
 }

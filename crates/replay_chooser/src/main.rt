@@ -7,6 +7,7 @@ use base::limits::{CLASS_RECORD, MOST_CLASSES, PAIR_BYTES};
 use md_chooser::{choose, verdict};
 use md_chooser_meaning::Judged;
 use replay::{WORD, first_case, least, next_case, read_case, say, word, words};
+use std::io;
 
 // Where a case's words begin: the bytes of the pair table and of the class table, the verdict, the length of the part handed back, the
 // length of the first text, and the two texts.
@@ -114,20 +115,20 @@ fn same_case(buf: &[u8], classes: &[u8], pairs: &[u8]) -> bool {
 }
 
 // The cases behind the two tables.
-fn replay_all(classes: &[u8], pairs: &[u8]) {
+fn replay_all(rt: &(impl Input + Print), classes: &[u8], pairs: &[u8]) -> io::Result<()> {
     let mut buf = [0u8; CASE_BYTES];
-    let mut t = first_case(&mut buf);
+    let mut t = first_case(rt, &mut buf);
     while t.size > 0 {
         let same = same_case(&buf[..t.size], classes, pairs);
-        t = next_case(&mut buf, t, same);
+        t = next_case(rt, &mut buf, t, same);
     }
-    say(t);
+    say(rt, t)
 }
 
-fn main() {
+fn main(rt: HostRuntime) -> io::Result<()> {
     let mut classes = [0u8; CLASS_BYTES];
     let mut pairs = [0u8; PAIR_ROOM];
-    let c = read_case(&mut classes);
-    let p = read_case(&mut pairs);
-    replay_all(&classes[..c], &pairs[..p]);
+    let c = read_case(&rt, &mut classes);
+    let p = read_case(&rt, &mut pairs);
+    replay_all(&rt, &classes[..c], &pairs[..p])
 }

@@ -12,6 +12,7 @@ use base::refusals::ACCEPTED;
 use base::{Counted, one};
 use classes::{Found, check_classes, is_suspicious, look_up_in};
 use replay::{WORD, first_case, next_case, say, word};
+use std::io;
 
 // The first word of a case: a table that stands there, one that is made here, code points and a table, or ranges and a pair table.
 const TABLE: u32 = 1;
@@ -226,13 +227,13 @@ fn made_room() -> [u8; MADE_BYTES]
     [0; MADE_BYTES]
 }
 
-fn main() {
+fn main(rt: HostRuntime) -> io::Result<()> {
     let mut buf = case_room();
     let mut made = made_room();
-    let mut t = first_case(&mut buf);
+    let mut t = first_case(&rt, &mut buf);
     while t.size > 0 {
         let same = same_case(&buf[..t.size], &mut made);
-        t = next_case(&mut buf, t, same);
+        t = next_case(&rt, &mut buf, t, same);
     }
-    say(t);
+    say(&rt, t)
 }

@@ -15,6 +15,7 @@ use replay::{
     Tally, WORD, first_case, flip_bits, float_of, least, next_case, no_cases, say, tallied, word,
     words,
 };
+use std::io;
 
 const BLOCK_BYTES: usize = 131072;
 
@@ -274,13 +275,13 @@ fn no_block() -> [u8; BLOCK_BYTES]
     [0; BLOCK_BYTES]
 }
 
-fn main() {
+fn main(rt: HostRuntime) -> io::Result<()> {
     let mut buf = no_block();
     let mut t = no_cases();
-    let mut blocks = first_case(&mut buf);
+    let mut blocks = first_case(&rt, &mut buf);
     while blocks.size > 0 {
         t = replay_block(&buf[..blocks.size], t);
-        blocks = next_case(&mut buf, blocks, true);
+        blocks = next_case(&rt, &mut buf, blocks, true);
     }
-    say(t);
+    say(&rt, t)
 }

@@ -12,6 +12,7 @@ use base::limits::{LANGUAGE_LETTERS, MOST_LETTERS};
 use cd_jaro::{jaro, matched, similarity};
 use f32_nearest::nearest_f32;
 use replay::{WORD, first_case, next_case, say, word, words};
+use std::io;
 
 // The first word of a case: two lists of letters, or a number.
 const LISTS: u32 = 1;
@@ -124,14 +125,14 @@ fn same_case(buf: &[u8], layer: &mut [u32], language: &mut [u32]) -> bool
     false
 }
 
-fn main() {
+fn main(rt: HostRuntime) -> io::Result<()> {
     let mut buf = [0u8; CASE_BYTES];
     let mut layer = [0u32; MOST_LETTERS];
     let mut language = [0u32; LANGUAGE_LETTERS];
-    let mut t = first_case(&mut buf);
+    let mut t = first_case(&rt, &mut buf);
     while t.size > 0 {
         let same = same_case(&buf[..t.size], &mut layer, &mut language);
-        t = next_case(&mut buf, t, same);
+        t = next_case(&rt, &mut buf, t, same);
     }
-    say(t);
+    say(&rt, t)
 }

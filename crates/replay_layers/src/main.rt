@@ -12,6 +12,7 @@ use cd_layers::alpha_unicode_split;
 use cd_letters::{rank, size};
 use cd_work::{lacks_start, letters_start, order_start};
 use replay::{first_case, flip_bits, next_case, say, word, words};
+use std::io;
 
 // The characters of the longest text, and the words of the work area for it.
 const LONGEST: usize = 1024;
@@ -141,12 +142,12 @@ fn same_case(buf: &[u8]) -> bool {
     same_text(buf, n, p, &pairs, &mut work)
 }
 
-fn main() {
+fn main(rt: HostRuntime) -> io::Result<()> {
     let mut buf = [0u8; CASE_BYTES];
-    let mut t = first_case(&mut buf);
+    let mut t = first_case(&rt, &mut buf);
     while t.size > 0 {
         let same = same_case(&buf[..t.size]);
-        t = next_case(&mut buf, t, same);
+        t = next_case(&rt, &mut buf, t, same);
     }
-    say(t);
+    say(&rt, t)
 }

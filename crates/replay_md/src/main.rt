@@ -14,6 +14,7 @@ use ratio::telling::{NUMBERS_SHOWN, shown_numbers};
 use replay::{
     WORD, first_case, float_of, least, next_case, read_case, same_words, say, word, words,
 };
+use std::io;
 
 // The first word of a case: a text over the class table of the list's front, one with a class table of its own, and one character repeated.
 const TEXT: u32 = 1;
@@ -141,20 +142,20 @@ fn same_case(buf: &[u8], classes: &[u8], pairs: &[u8]) -> bool {
 }
 
 // The cases behind the two tables.
-fn replay_all(classes: &[u8], pairs: &[u8]) {
+fn replay_all(rt: &(impl Input + Print), classes: &[u8], pairs: &[u8]) -> io::Result<()> {
     let mut buf = [0u8; CASE_BYTES];
-    let mut t = first_case(&mut buf);
+    let mut t = first_case(rt, &mut buf);
     while t.size > 0 {
         let same = same_case(&buf[..t.size], classes, pairs);
-        t = next_case(&mut buf, t, same);
+        t = next_case(rt, &mut buf, t, same);
     }
-    say(t);
+    say(rt, t)
 }
 
-fn main() {
+fn main(rt: HostRuntime) -> io::Result<()> {
     let mut classes = [0u8; CLASS_BYTES];
     let mut pairs = [0u8; PAIR_ROOM];
-    let c = read_case(&mut classes);
-    let p = read_case(&mut pairs);
-    replay_all(&classes[..c], &pairs[..p]);
+    let c = read_case(&rt, &mut classes);
+    let p = read_case(&rt, &mut pairs);
+    replay_all(&rt, &classes[..c], &pairs[..p])
 }

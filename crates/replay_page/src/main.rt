@@ -8,6 +8,7 @@ ghost use Rattle.replay_page.specs.Inner.Sizes.{PAGE_ROOM, LONGEST};
 use base::Counted;
 use page::{read_page, write_page};
 use replay::{first_case, least, next_case, say, word};
+use std::io;
 
 // The words at the head of a case.
 const WRITING: usize = 0;
@@ -206,12 +207,12 @@ fn same_case(case: &[u8]) -> bool {
     writing(case)
 }
 
-fn main() {
+fn main(rt: HostRuntime) -> io::Result<()> {
     let mut buf = [0u8; CASE_BYTES];
-    let mut t = first_case(&mut buf);
+    let mut t = first_case(&rt, &mut buf);
     while t.size > 0 {
         let same = same_case(&buf[..t.size]);
-        t = next_case(&mut buf, t, same);
+        t = next_case(&rt, &mut buf, t, same);
     }
-    say(t);
+    say(&rt, t)
 }

@@ -13,6 +13,7 @@ use ratio::rounding::{bits, sum};
 use ratio::telling::{NUMBERS_SHOWN, eight_shown, shown_numbers};
 use ratio::{DETECTORS, Ratios};
 use replay::{WORD, byte, first_case, next_case, same_words, say, word};
+use std::io;
 
 // The words before the letters: the sum, eight ratios, their counts, and the number of letters.
 const COUNTS_AT: usize = DETECTORS + 1;
@@ -99,12 +100,12 @@ fn same_case(case: &[u8]) -> bool
     same_ratios(case, ratios_of(s)) & same_counts(case, s)
 }
 
-fn main() {
+fn main(rt: HostRuntime) -> io::Result<()> {
     let mut buf = [0u8; LONGEST_CASE];
-    let mut t = first_case(&mut buf);
+    let mut t = first_case(&rt, &mut buf);
     while t.size > 0 {
         let same = same_case(&buf[..t.size]);
-        t = next_case(&mut buf, t, same);
+        t = next_case(&rt, &mut buf, t, same);
     }
-    say(t);
+    say(&rt, t)
 }

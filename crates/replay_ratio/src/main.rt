@@ -13,6 +13,7 @@ use ratio::finite::is_finite;
 use ratio::rounding::{ratios, rounded, sum};
 use ratio::{Counts, DETECTORS, EightCounts, Fraction, at_least, counts_of, fraction_of};
 use replay::{first_case, float_of, next_case, say, word};
+use std::io;
 
 // The first word of a case: eight fractions, each with its answers, and the sum; or a threshold.
 const FRACTIONS: u32 = 1;
@@ -130,12 +131,12 @@ fn same_case(buf: &[u8]) -> bool {
     }
 }
 
-fn main() {
+fn main(rt: HostRuntime) -> io::Result<()> {
     let mut buf = [0u8; CASE_BYTES];
-    let mut t = first_case(&mut buf);
+    let mut t = first_case(&rt, &mut buf);
     while t.size > 0 {
         let same = same_case(&buf[..t.size]);
-        t = next_case(&mut buf, t, same);
+        t = next_case(&rt, &mut buf, t, same);
     }
-    say(t);
+    say(&rt, t)
 }

@@ -8,6 +8,7 @@ ghost use Rattle.replay_ring.specs.Inner.Sizes.{SMALL, RING, OUTPUT};
 use replay::{WORD, byte, first_case, least, next_case, say, word};
 use ring::{MOST_SLOTS, RECORD, flush_records, open_ring, put_record};
 use ring_meaning::{Ringed, Verdict};
+use std::io;
 
 // The words at the head of a case: which call, its arguments, its answer, and how many bytes of the ring and of the output are told.
 const CALL: usize = 0;
@@ -200,16 +201,16 @@ fn output_room(case: &[u8]) -> usize
     least(word(case, ROOM) as usize, OUTPUT)
 }
 
-fn main() {
+fn main(rt: HostRuntime) -> io::Result<()> {
     let mut buf = [0u8; CASE_BYTES];
     let mut ring = [0u8; RING];
     let mut out = [0u8; OUTPUT];
-    let mut t = first_case(&mut buf);
+    let mut t = first_case(&rt, &mut buf);
     while t.size > 0 {
         let size = ring_size(&buf[..t.size]);
         let room = output_room(&buf[..t.size]);
         let same = same_case(&buf[..t.size], &mut ring[..size], &mut out[..room]);
-        t = next_case(&mut buf, t, same);
+        t = next_case(&rt, &mut buf, t, same);
     }
-    say(t);
+    say(&rt, t)
 }

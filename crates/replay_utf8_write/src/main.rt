@@ -8,6 +8,7 @@ ghost use Rattle.replay_utf8_write.specs.Inner.Sizes.{SMALL, INPUT, OUTPUT};
 use base::Counted;
 use base::limits::{LONGEST_BYTES, LONGEST_TEXT};
 use replay::{WORD, byte, first_case, least, next_case, say, word};
+use std::io;
 use utf8_write::write_utf8;
 
 // The words at the head of a case.
@@ -147,16 +148,16 @@ fn bytes_room(case: &[u8]) -> usize
     least(word(case, ROOM) as usize, OUTPUT)
 }
 
-fn main() {
+fn main(rt: HostRuntime) -> io::Result<()> {
     let mut buf = [0u8; CASE_BYTES];
     let mut input = [0u32; INPUT];
     let mut out = [0u8; OUTPUT];
-    let mut t = first_case(&mut buf);
+    let mut t = first_case(&rt, &mut buf);
     while t.size > 0 {
         let size = points_size(&buf[..t.size]);
         let room = bytes_room(&buf[..t.size]);
         let same = same_case(&buf[..t.size], &mut input[..size], &mut out[..room]);
-        t = next_case(&mut buf, t, same);
+        t = next_case(&rt, &mut buf, t, same);
     }
-    say(t);
+    say(&rt, t)
 }

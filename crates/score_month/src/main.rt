@@ -10,18 +10,15 @@ use base::refusals::TOO_LONG;
 use base::{Counted, Refusal};
 use md_lines::{NUMBERS_PER_LINE, score_lines};
 use md_report::{LONGEST_REPORT, report};
-use program::LONGEST_INPUT;
 use program::line::put_refused;
+use program::{LONGEST_INPUT, read_input};
+use std::io;
 
 // One byte more than is scored, so that a longer input is seen to be longer.
 const ROOM: usize = LONGEST_INPUT + 1;
 
 // Numbers of as many lines as the longest input can have.
 const ROWS: usize = LONGEST_INPUT * NUMBERS_PER_LINE;
-
-const STDIN: i32 = 0;
-
-const STDOUT: i32 = 1;
 
 // f32 0.2, at which the program scores.
 const THRESHOLD: f32 = 0.2;
@@ -67,10 +64,10 @@ fn report_lines(bytes: &[u8], out: &mut [u8]) -> usize
     }
 }
 
-fn main() {
+fn main(rt: HostRuntime) -> io::Result<()> {
     let mut input = [0u8; ROOM];
-    let n = io::read_full(STDIN, &mut input);
+    let n = read_input(&rt, &mut input)?;
     let mut out = [0u8; LONGEST_REPORT];
     let k = report_lines(&input[..n], &mut out);
-    io::write_all(STDOUT, &out[..k]);
+    rt.write_all(&out[..k])
 }

@@ -1,6 +1,8 @@
 // The same program as `score`, run here on byte FF, which is not UTF-8.
 #![tactic(auto)]
 
-fn main() {
-    program::run();
+use std::io;
+
+fn main(rt: HostRuntime) -> io::Result<()> {
+    program::run(&rt)
 }

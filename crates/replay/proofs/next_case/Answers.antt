@@ -5,7 +5,7 @@ use Rattle.replay.proofs.Laws.Tally.{turns_end, turns_less}
 use Rattle.replay.proofs.next_case.Goals as goal
 
 pub returns-then-c-ge-MOST_CASES : goal.returns-then-c-ge-MOST_CASES
-returns-then-c-ge-MOST_CASES c =
+returns-then-c-ge-MOST_CASES g c =
     let count = c.tallied-c.ensures in
     record {
       sound = record { few = count.sound.few; some = count.sound.some };
@@ -14,7 +14,7 @@ returns-then-c-ge-MOST_CASES c =
     }
 
 pub returns : goal.returns
-returns c =
+returns g c =
     let count = c.tallied-c.ensures in
     record {
       sound = record { few = count.sound.few; some = count.sound.some };

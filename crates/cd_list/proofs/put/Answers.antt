@@ -1,0 +1,18 @@
+-- No match is put at first, and each turn puts one more. Assumes nothing.
+use native.Mathlib.Omega.{arith}
+use mathlib.Core.Path.{◌≡◌, sym, ap, ◌∙◌}
+use mathlib.Core.List.{List}
+use Prim.Native.Nat.{◌+◌, ◌≤◌, ◌<◌, zero-le}
+use lib.ListN.{length, set}
+use Rattle.cd_ranking.specs.declared.CoherenceMatch.{CoherenceMatch}
+use Rattle.cd_list.proofs.Loops.Filled.{filled, filled_none, filled_more, filled_length}
+use Rattle.cd_list.proofs.put.Goals as goal
+
+pub loop-i-init : goal.loop-i-init
+loop-i-init c = (zero-le, sym (filled_none c.args.r c.args.out.now))
+
+pub loop-i-preserved : goal.loop-i-preserved
+loop-i-preserved c =
+    let le : c.loop-i.i + 1 ≤ c.args.r.count = omega arith in
+    let inside : c.loop-i.i < length c.args.out.now = omega (arith, c.requires.1) in
+    (le, rw (c.entry_at.ensures, c.loop-i.invariant.1) (filled_more c.args.r c.args.out.now c.loop-i.i inside))

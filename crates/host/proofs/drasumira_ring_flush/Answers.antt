@@ -1,0 +1,9 @@
+-- The flat form of the one call's answer. Assumes nothing.
+use mathlib.Core.Path.{ap, ◌∙◌}
+use Rattle.host.specs.Host.{host_ring}
+use Rattle.host.proofs.drasumira_ring_flush.Goals as goal
+
+pub returns : goal.returns
+returns c =
+    let told = (c.flat_ringed.ensures ∙ ap host_ring c.flush_records.ensures.0, c.flush_records.ensures.1) in
+    record { value = told.0; out_after = told.1 }

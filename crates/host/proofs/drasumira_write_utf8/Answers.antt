@@ -1,0 +1,9 @@
+-- The flat form of the one call's answer. Assumes nothing.
+use mathlib.Core.Path.{ap, ◌∙◌}
+use Rattle.host.specs.Host.{host_counted}
+use Rattle.host.proofs.drasumira_write_utf8.Goals as goal
+
+pub returns : goal.returns
+returns c =
+    let told = (c.flat_counted.ensures ∙ ap host_counted c.write_utf8.ensures.0, c.write_utf8.ensures.1) in
+    record { value = told.0; out_after = told.1 }
