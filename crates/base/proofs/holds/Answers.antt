@@ -1,5 +1,4 @@
 -- What was found before k, or what is in the list from k on, is what is among them all (`Looking`). Assumes nothing.
-use Prim.Native.Nat.{◌-◌}
 use Rattle.base.proofs.Loops.Looking.{looking_start, looking_more, looking_end}
 use Rattle.base.proofs.holds.Goals as goal
 

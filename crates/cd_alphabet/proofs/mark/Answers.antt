@@ -1,6 +1,5 @@
 -- The places of the first k letters are marked (`Marking`).
 -- Assumes nothing.
-use Prim.Native.Nat.{◌-◌}
 use native.Mathlib.Omega.{arith}
 use Rattle.cd_alphabet.proofs.Loops.Sieve.{marking_start, marking_room, marking_more, marking_end}
 use Rattle.cd_alphabet.proofs.mark.Goals as goal

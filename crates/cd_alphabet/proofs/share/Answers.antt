@@ -1,6 +1,5 @@
 -- What is counted before i, and what is left from i on, is all (`Counting`).
 -- Assumes nothing.
-use Prim.Native.Nat.{◌-◌}
 use native.Mathlib.Omega.{arith}
 use Rattle.cd_alphabet.proofs.Loops.Alphabet.{counting_start, counting_more, counting_end}
 use Rattle.cd_alphabet.proofs.share.Goals as goal

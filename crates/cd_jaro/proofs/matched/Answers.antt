@@ -1,6 +1,5 @@
 -- The first parts of the two arrays are the definition's lists after i letters (`Matched`).
 -- Assumes nothing.
-use Prim.Native.Nat.{◌-◌}
 use native.Mathlib.Omega.{arith}
 use Rattle.cd_jaro.proofs.Loops.Matched.{matched_start, matched_few, matched_flags, matched_letters, matched_paired, matched_reach}
 use Rattle.cd_jaro.proofs.Loops.Matched.{matched_miss, matched_room, matched_hit, matched_end}

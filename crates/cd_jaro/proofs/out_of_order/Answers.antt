@@ -1,6 +1,5 @@
 -- What is counted so far and what is left to count are all that differ (`Counting`).
 -- Assumes nothing.
-use Prim.Native.Nat.{◌-◌}
 use native.Mathlib.Omega.{arith}
 use Rattle.cd_jaro.proofs.Loops.OutOfOrder.{counting_start, counting_skip, counting_room, counting_pick, counting_end}
 use Rattle.cd_jaro.proofs.out_of_order.Goals as goal

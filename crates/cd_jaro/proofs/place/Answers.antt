@@ -1,7 +1,6 @@
 -- Nothing before j serves (`Seeking`): before the window nothing does, and the walk passes another letter or a taken one. The first that
 -- serves is the definition's, and past the window nothing does.
 -- Assumes nothing.
-use Prim.Native.Nat.{◌-◌}
 use mathlib.Core.Bool.{not}
 use mathlib.Core.Path.{ap}
 use Rattle.cd_jaro.proofs.Loops.Place.{seeking_start, seeking_other, seeking_taken, seeking_found, seeking_end, seeking_absent}

@@ -1,7 +1,6 @@
 -- The walk has passed only good records.
 -- Assumes nothing.
 use native.Mathlib.Omega.{arith}
-use Prim.Native.Nat.{◌-◌}
 use mathlib.Core.Bool.{not}
 use mathlib.Core.Path.{sym, ap, ◌∙◌}
 use Rattle.base.proofs.Laws.First.{first_start, first_hit, first_miss, first_end}

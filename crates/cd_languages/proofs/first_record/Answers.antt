@@ -1,7 +1,6 @@
 -- The walk has passed only records with other numbers.
 -- Assumes nothing.
 use native.Mathlib.Omega.{arith}
-use Prim.Native.Nat.{◌-◌}
 use mathlib.Core.Path.{sym, ◌∙◌}
 use borrow.Author.Tests.{eq-eqb, ne_eqb}
 use Rattle.base.proofs.Laws.First.{first_start, first_hit, first_miss, first_end}

@@ -1,7 +1,6 @@
 -- `good` says whether the slots below k are good.
 -- Assumes nothing.
 use native.Mathlib.Omega.{arith}
-use Prim.Native.Nat.{◌-◌}
 use mathlib.Core.Path.{◌≡◌, ap, ◌∙◌}
 use lib.Dec.{eqb}
 use Rattle.base.specs.Limits.{LANGUAGE_LETTERS}

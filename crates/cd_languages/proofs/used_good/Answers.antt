@@ -1,7 +1,6 @@
 -- `good` says whether the slots below k are good.
 -- Assumes nothing.
 use native.Mathlib.Omega.{arith}
-use Prim.Native.Nat.{◌-◌}
 use mathlib.Core.Path.{◌≡◌, refl, ap, ◌∙◌}
 use Rattle.base.specs.Tests.{scalar}
 use Rattle.base.specs.First.{each}

@@ -1,6 +1,5 @@
 -- After i slots the first i words hold numbers and the others ranges still, and `count` different keys are those of the layers so far: so
 -- there is room for one more. Assumes nothing.
-use Prim.Native.Nat.{◌-◌}
 use mathlib.Core.Path.{refl}
 use native.Mathlib.Omega.{arith}
 use Rattle.cd_layers.proofs.Loops.Splitting.{going_start, going_skip, going_old, going_room, going_new, going_end, going_size, going_inside, going_few, going_within, going_range}

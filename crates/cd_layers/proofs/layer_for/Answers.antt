@@ -1,5 +1,4 @@
 -- `layer_for` walks the keys: none of the first j accepts the range; where none does, `own` decides. Assumes nothing.
-use Prim.Native.Nat.{◌-◌}
 use Rattle.cd_layers.proofs.Loops.Looking.{look_start, look_on, layer_joins, layer_own, accepts_not, accepts_so}
 use Rattle.cd_layers.proofs.layer_for.Goals as goal
 

@@ -1,5 +1,4 @@
 -- `own` walks the keys: none of the first j is the range. Assumes nothing.
-use Prim.Native.Nat.{◌-◌}
 use mathlib.Core.Path.{sym}
 use Rattle.cd_layers.proofs.Loops.Looking.{look_start, look_on, look_hit, look_end, own_not, own_so}
 use Rattle.cd_layers.proofs.own.Goals as goal

@@ -1,11 +1,9 @@
 -- No match is put at first, and each turn puts one more. Assumes nothing.
 use native.Mathlib.Omega.{arith}
-use mathlib.Core.Path.{◌≡◌, sym, ap, ◌∙◌}
-use mathlib.Core.List.{List}
+use mathlib.Core.Path.{sym}
 use Prim.Native.Nat.{◌+◌, ◌≤◌, ◌<◌, zero-le}
-use lib.ListN.{length, set}
-use Rattle.cd_ranking.specs.declared.CoherenceMatch.{CoherenceMatch}
-use Rattle.cd_list.proofs.Loops.Filled.{filled, filled_none, filled_more, filled_length}
+use lib.ListN.{length}
+use Rattle.cd_list.proofs.Loops.Filled.{filled_none, filled_more}
 use Rattle.cd_list.proofs.put.Goals as goal
 
 pub loop-i-init : goal.loop-i-init

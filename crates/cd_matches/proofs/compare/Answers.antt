@@ -1,6 +1,5 @@
 -- What stands, and the matches that are left, come to what all of them come to (`Walking`).
 -- Assumes nothing.
-use Prim.Native.Nat.{◌-◌}
 use mathlib.Core.Path.{refl, sym}
 use native.Mathlib.Omega.{arith}
 use Rattle.cd_languages.proofs.Laws.Languages.{good_most}

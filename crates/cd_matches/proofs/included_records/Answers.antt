@@ -1,6 +1,5 @@
 -- The first records with the first k numbers stand in the first places (`Filling`).
 -- Assumes nothing.
-use Prim.Native.Nat.{◌-◌}
 use native.Mathlib.Omega.{arith}
 use lib.ListN.{get_or}
 use Rattle.cd_languages.specs.Languages.{first_record}

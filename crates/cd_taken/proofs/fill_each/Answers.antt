@@ -1,6 +1,5 @@
 -- The invariant: the slots of the first i characters stand in the work area. Assumes nothing.
 use mathlib.Core.Path.{◌∙◌}
-use Prim.Native.Nat.{◌-◌}
 use Rattle.cd_taken.proofs.Loops.Filling.{filling_start, filling_size, filling_inside, filling_behind, filling_one, filling_behind_two, filling_two, filling_end}
 use borrow.Author.Tests.{eq-eqb, ne_eqb}
 use Rattle.cd_taken.proofs.fill_each.Goals as goal

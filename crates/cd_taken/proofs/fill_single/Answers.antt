@@ -1,6 +1,5 @@
 -- The invariant: the slots of the first i characters, as many as they are, stand in the work area. Assumes nothing.
 use mathlib.Core.Path.{◌∙◌, sym}
-use Prim.Native.Nat.{◌-◌}
 use Rattle.cd_taken.proofs.Loops.Filling.{filling_start, filling_size, filling_inside, filling_behind, filling_one, filling_end, single}
 use Rattle.cd_taken.proofs.fill_single.Goals as goal
 

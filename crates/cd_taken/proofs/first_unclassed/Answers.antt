@@ -1,5 +1,4 @@
 -- The invariant: 6 is given for none of the first i characters. Assumes nothing.
-use Prim.Native.Nat.{◌-◌}
 use mathlib.Core.Path.{sym, ◌∙◌}
 use native.Mathlib.Omega.{arith}
 use Rattle.base.proofs.Laws.First.{first_start, first_hit, first_miss, first_end}

@@ -1,5 +1,4 @@
 -- The invariant: none of the first i letters is accentuated, so the others say what all say. Assumes nothing.
-use Prim.Native.Nat.{◌-◌}
 use mathlib.Core.Path.{sym, ◌∙◌}
 use Rattle.cd_taken.proofs.Loops.Accents.{accented_start, accented_more, accented_hit, accented_end}
 use Rattle.cd_taken.proofs.some_accented.Goals as goal

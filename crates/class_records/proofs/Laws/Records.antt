@@ -9,7 +9,6 @@ use native.Mathlib.Omega.{arith}
 use lib.ListN.{length}
 use lib.Dec.{leb, ltb, eqb}
 use borrow.Author.Tests.{ltb-true, leb-true, le-leb, eqb-true, ne_eqb, not-false}
-use Rattle.base.specs.First.{first}
 use Rattle.base.proofs.Laws.First.{first_before, first_is, first_none}
 use Rattle.base.specs.FlagRule.{flag_rule}
 use Rattle.base.specs.Limits.{BUILTIN_END, LAST_POINT, SURROGATE_FIRST, SURROGATE_LAST, CLASS_RECORD, MOST_CLASSES, LAST_RANGE}

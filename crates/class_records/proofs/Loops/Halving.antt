@@ -7,7 +7,6 @@ use mathlib.Core.List.{List}
 use mathlib.Core.Bool.{true, false}
 use native.Mathlib.Omega.{arith}
 use borrow.Author.Tests.{leb-true, le-leb, lt-leb, leb-false}
-use Rattle.base.specs.First.{first}
 use Rattle.base.proofs.Laws.First.{first_is, first_none, first_before, first_found}
 use Rattle.base.proofs.Laws.Tests.{split, within_yes, within_below, within_above}
 use Rattle.class_records.specs.Records.{records, record_at, good_table, holds, holder}

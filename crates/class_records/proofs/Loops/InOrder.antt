@@ -10,7 +10,6 @@ use native.Mathlib.Numerals.{add-one}
 use lib.Dec.{leb, ltb, eqb}
 use native.Mathlib.Nat.{le_refl}
 use borrow.Author.Tests.{ltb-true, leb-true, lt-ltb, le-leb, eqb-true, eq-eqb, not-false}
-use Rattle.base.specs.First.{first}
 use Rattle.base.specs.Inner.First.{first_from}
 use Rattle.base.proofs.Laws.First.{first_start, first_hit, first_miss, first_end}
 use Rattle.base.specs.Limits.{BUILTIN_END, LAST_POINT, SURROGATE_FIRST, SURROGATE_LAST}

@@ -3,7 +3,6 @@
 use mathlib.Core.Bool.{not}
 use mathlib.Core.Path.{ap}
 use native.Mathlib.Omega.{arith}
-use Prim.Native.Nat.{◌-◌}
 use Rattle.class_records.proofs.Loops.InOrder.{walked_start, walked_bad, walked_more, walked_end}
 use Rattle.class_records.proofs.first_bad.Goals as goal
 

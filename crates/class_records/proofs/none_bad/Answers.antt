@@ -1,7 +1,6 @@
 -- `good` says whether the records passed are in order, and `end` where they end; in order up to the last code point is good for all of them.
 -- Assumes nothing.
 use native.Mathlib.Omega.{arith}
-use Prim.Native.Nat.{◌-◌}
 use Rattle.class_records.proofs.Loops.InOrder.{reduced_start, reduced_more, reduced_end}
 use Rattle.class_records.proofs.none_bad.Goals as goal
 

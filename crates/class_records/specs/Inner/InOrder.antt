@@ -1,7 +1,6 @@
 -- Words of inner contracts, beside InOrder: `span_after`. No public promise rests on them.
 -- Assumes nothing.
 use Rattle.std.specs.Prelude.{ℕ, Bool, ◌&&◌, ◌||◌, leb, ltb}
-use Rattle.base.specs.First.{first}
 use Rattle.base.specs.Limits.{SURROGATE_FIRST, SURROGATE_LAST}
 use Rattle.class_records.specs.declared.Record.{Record}
 

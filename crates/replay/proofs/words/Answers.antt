@@ -1,5 +1,4 @@
 -- Each turn stores one word within the output, whose length stays. Assumes nothing.
-use Prim.Native.Nat.{◌-◌}
 use native.Mathlib.Omega.{arith}
 use lib.ListN.{length-set}
 use Rattle.replay.proofs.words.Goals as goal

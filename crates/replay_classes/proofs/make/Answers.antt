@@ -1,5 +1,4 @@
 -- The loop stands within the n records, which the table has room for; no store changes its length. Assumes nothing.
-use Prim.Native.Nat.{◌-◌}
 use native.Mathlib.Omega.{arith}
 use lib.ListN.{length-set}
 use Rattle.replay_classes.proofs.make.Goals as goal

@@ -1,5 +1,4 @@
 -- The first i words are ranges. Assumes nothing.
-use Prim.Native.Nat.{◌-◌}
 use native.Mathlib.Omega.{arith}
 use Rattle.replay_layers.proofs.Loops.Filling.{fill_start, fill_on, fill_end}
 use Rattle.replay_layers.proofs.set_ranges.Goals as goal

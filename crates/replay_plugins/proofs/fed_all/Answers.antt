@@ -1,5 +1,4 @@
 -- After i characters the detectors are within what i characters can give. Assumes nothing.
-use Prim.Native.Nat.{◌-◌}
 use native.Mathlib.Omega.{arith}
 use Rattle.md_eight.proofs.Loops.Detectors.{start_within, feed_within, within_room, within_countable}
 use Rattle.replay_plugins.proofs.fed_all.Goals as goal

@@ -1,6 +1,6 @@
 -- The loop of every replay (`Replaying`). What is lent beside the buffer keeps its length. Assumes nothing.
 use mathlib.Core.Path.{◌∙◌}
-use Prim.Native.Nat.{ℕ, ◌-◌}
+use Prim.Native.Nat.{ℕ}
 use native.Mathlib.Omega.{arith}
 use lib.Seq.{length_front}
 use lib.ListN.{length-take, length-replicate}

@@ -1,5 +1,4 @@
 -- Each turn writes one element, within the slice. Assumes nothing.
-use Prim.Native.Nat.{◌-◌}
 use native.Mathlib.Omega.{arith}
 use lib.ListN.{length-set}
 use Rattle.replay_utf8.proofs.put_untouched.Goals as goal

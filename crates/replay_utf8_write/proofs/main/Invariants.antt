@@ -1,5 +1,4 @@
 use mathlib.Core.Path.{◌≡◌}
-use Prim.Native.Nat.{◌-◌}
 use lib.ListN.{length}
 use Rattle.replay.specs.Inner.Tally.{turns}
 use Rattle.replay.proofs.Loops.Replaying.{Replaying}

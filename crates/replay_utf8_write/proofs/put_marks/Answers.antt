@@ -1,5 +1,4 @@
 -- Each turn writes one byte, within the slice. Assumes nothing.
-use Prim.Native.Nat.{◌-◌}
 use native.Mathlib.Omega.{arith}
 use lib.ListN.{length-set}
 use Rattle.replay_utf8_write.proofs.put_marks.Goals as goal

@@ -1,5 +1,4 @@
 -- The first `to` places hold the text up to `from` and the rest is as it was: each turn writes the next code point, or a run of ASCII, there. Assumes nothing.
-use Prim.Native.Nat.{◌-◌}
 use native.Mathlib.Omega.{arith}
 use Rattle.utf8.proofs.Loops.Filling.{filling_start, filling_one, filling_two, filling_three, filling_four, filling_run_room, filling_run, filling_end}
 use Rattle.utf8.proofs.fill.Goals as goal

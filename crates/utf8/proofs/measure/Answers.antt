@@ -1,6 +1,5 @@
 -- What is left to read, with what is counted, is the reading of the whole: each turn takes one sequence, or a run of ASCII, off its front. Assumes nothing.
 use mathlib.Core.Path.{sym, ◌∙◌}
-use Prim.Native.Nat.{◌-◌}
 use Rattle.utf8.proofs.Loops.Counting.{passed_start, passed_ascii, passed_two, passed_three, passed_four, fault_two, fault_three, fault_four, passed_end}
 use Rattle.utf8.proofs.measure.Goals as goal
 

@@ -1,5 +1,4 @@
 -- What is written past those that stand changes nothing of what is taken. Assumes nothing.
-use Prim.Native.Nat.{◌-◌}
 use native.Mathlib.Omega.{arith}
 use Rattle.utf8_taking.proofs.Loops.Taking.{placed_start, placed_more, placed_length, placed_all}
 use Rattle.utf8_taking.proofs.put_twos.Goals as goal

@@ -1,5 +1,4 @@
 -- Each turn goes on where the one before it ended; the loop ends where a turn takes nothing, or too few bytes are left. Assumes nothing.
-use Prim.Native.Nat.{◌-◌}
 use native.Mathlib.Omega.{arith}
 use Rattle.utf8_taking.proofs.Loops.Taking.{taken_none, taken_on, taken_join, room_on}
 use Rattle.utf8_taking.proofs.take_all_spaced.Goals as goal

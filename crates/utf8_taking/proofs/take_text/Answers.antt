@@ -1,5 +1,4 @@
 -- What is taken is the text up to `from`: each turn takes what stands there, and where nothing does the text ends. Assumes nothing.
-use Prim.Native.Nat.{◌-◌}
 use native.Mathlib.Omega.{arith}
 use Rattle.utf8_taking.proofs.Loops.Taking.{taken_none, taken_on, taken_join, room_left, taken_stop, taken_end}
 use Rattle.utf8_taking.proofs.take_text.Goals as goal

@@ -1,6 +1,5 @@
 -- Each turn takes the sequence of three at i; the loop ends where none stands, or another byte leads. Assumes nothing.
 use mathlib.Core.Path.{sym, ◌∙◌}
-use Prim.Native.Nat.{◌-◌}
 use native.Mathlib.Omega.{arith}
 use Rattle.utf8_taking.proofs.Loops.Taking.{taken_none, taken_three, none_three, not_there, not_past}
 use Rattle.utf8_taking.proofs.take_threes.Goals as goal

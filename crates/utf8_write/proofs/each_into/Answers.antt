@@ -1,6 +1,5 @@
 -- The places from `at` up to `to` hold the encodings of the first `from` code points, and the rest is as it was: each turn writes the next code point
 -- there. Assumes nothing.
-use Prim.Native.Nat.{◌-◌}
 use native.Mathlib.Omega.{arith}
 use Rattle.utf8_write.proofs.Loops.Writing.{writing_start, writing_count, writing_end}
 use Rattle.utf8_write.proofs.Loops.Writing.{writing_one, writing_byte, writing_two, writing_three, writing_four, writing_top}

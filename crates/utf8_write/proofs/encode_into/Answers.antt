@@ -1,6 +1,5 @@
 -- The first `to` places hold the encodings of the first `from` code points, and the rest is as it was: each turn writes the whole eights of ASCII that come
 -- next there, and then a part one by one. Assumes nothing.
-use Prim.Native.Nat.{◌-◌}
 use native.Mathlib.Omega.{arith}
 use Rattle.utf8_write_meaning.proofs.Laws.Encoded.{scalars_part}
 use Rattle.utf8_write.proofs.Loops.Writing.{writing_start, writing_end, turn_less}

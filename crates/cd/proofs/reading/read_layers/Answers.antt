@@ -1,6 +1,5 @@
 -- After k layers the standing is what those layers come to, the numbers and letters stand as they stood, and each layer has added at most MOST-INCLUDED
 -- sufficient matches. Assumes nothing.
-use Prim.Native.Nat.{◌-◌}
 use native.Mathlib.Omega.{arith}
 use Rattle.cd_meaning.proofs.Laws.Reading.{read_start, read_room, read_undotted, read_more, read_bound, read_end}
 use Rattle.cd.proofs.reading.read_layers.Goals as goal

@@ -1,5 +1,4 @@
 -- No length before i is over 63 (`Within`). Assumes nothing.
-use Prim.Native.Nat.{◌-◌}
 use Rattle.cd_merge.proofs.Loops.Lengths.{within_start, within_hit, within_more, within_end}
 use Rattle.cd_merge.proofs.check.any_over.Goals as goal
 

@@ -1,5 +1,4 @@
 -- The first i lengths are added (`Adding`); at most 64 of at most 63 each, they stay below 2 ^ 64. Assumes nothing.
-use Prim.Native.Nat.{◌-◌}
 use native.Mathlib.Omega.{arith}
 use Rattle.cd_merge.proofs.Loops.Lengths.{adding_start, adding_small, adding_more, adding_end}
 use Rattle.cd_merge.proofs.check.total.Goals as goal

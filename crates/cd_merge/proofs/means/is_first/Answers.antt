@@ -1,5 +1,4 @@
 -- No entry before k has the language of the entry i (`Finding`). Assumes nothing.
-use Prim.Native.Nat.{◌-◌}
 use mathlib.Core.Path.{sym, ◌∙◌}
 use native.Mathlib.Omega.{arith}
 use Rattle.cd_merge.proofs.Loops.Finding.{finding_start, finding_hit, finding_miss, finding_end}

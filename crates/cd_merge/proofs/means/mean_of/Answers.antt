@@ -1,5 +1,5 @@
 -- The scores of the language in the first i entries are added and counted (`Summing`); an f32 holds their number. Assumes nothing.
-use Prim.Native.Nat.{◌-◌, ◌^◌}
+use Prim.Native.Nat.{◌^◌}
 use mathlib.Core.Path.{sym, ◌∙◌}
 use native.Mathlib.Omega.{arith}
 use lib.Dec.{le→leb}

@@ -1,5 +1,4 @@
 -- The first i records stand at the front of the output, and the rest is as it was; the largest place so far is held beside them. Assumes nothing.
-use Prim.Native.Nat.{◌-◌}
 use Rattle.class_compact_meaning.proofs.Laws.Unpacked.{expansion_length}
 use Rattle.class_compact.proofs.Loops.InFirstUse.{seen_start, seen_more, seen_end}
 use Rattle.class_compact.proofs.Loops.Laying.{laying_start, laying_length, laying_room, laying_more, laying_end}

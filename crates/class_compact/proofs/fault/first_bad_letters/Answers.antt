@@ -1,5 +1,4 @@
 -- No letters before k are bad, and k has 16 bits since those before it are used. Assumes nothing.
-use Prim.Native.Nat.{◌-◌}
 use Rattle.class_compact.proofs.Loops.Seeking.{seeking_start, seeking_hit, seeking_more, seeking_end}
 use Rattle.class_compact_meaning.specs.Check.{bad_letters, first_bad_letters}
 use mathlib.Core.Path.{sym, ◌∙◌}

@@ -1,5 +1,4 @@
 -- The letters of no record before i are missing. Assumes nothing.
-use Prim.Native.Nat.{◌-◌}
 use Rattle.class_compact.proofs.Loops.Seeking.{seeking_start, seeking_hit, seeking_more, seeking_end}
 use Rattle.class_compact_meaning.specs.Check.{missing}
 use Rattle.class_compact_meaning.specs.Inner.Sound.{first_missing}

@@ -1,5 +1,5 @@
 -- No record before i uses the place; and where one does, it has 16 bits as every place has. Assumes nothing.
-use Prim.Native.Nat.{ℕ, ◌-◌, ◌<◌}
+use Prim.Native.Nat.{ℕ, ◌<◌}
 use Rattle.class_compact.proofs.Loops.Seeking.{seeking_start, seeking_hit, seeking_more, seeking_end}
 use Rattle.class_compact_meaning.specs.Check.{first_use}
 use borrow.Author.Tests.{eq-eqb, ne_eqb}

@@ -1,5 +1,4 @@
 -- No letters before k are these. Assumes nothing.
-use Prim.Native.Nat.{◌-◌}
 use Rattle.class_compact.proofs.Loops.Seeking.{seeking_start, seeking_hit, seeking_more, seeking_end}
 use Rattle.class_compact_meaning.specs.Check.{letters_are}
 use native.Mathlib.Omega.{arith}

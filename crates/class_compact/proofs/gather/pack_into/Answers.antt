@@ -1,5 +1,4 @@
 -- The first i records stand in the one room, and the letters that they use in the other, all of them noted. Assumes nothing.
-use Prim.Native.Nat.{◌-◌}
 use Rattle.class_compact.proofs.Loops.Gathering.{gathering_start, gathering_length, gathering_placed, gathering_more, gathered_records, gathered_letters, gathered_number}
 use Rattle.class_compact.proofs.Loops.Laying.{laying_length, laying_room}
 use Rattle.class_compact.proofs.gather.pack_into.Goals as goal

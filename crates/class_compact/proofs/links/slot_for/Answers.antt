@@ -1,5 +1,4 @@
 -- The walk passes other letters, and each place that it meets lies behind the slot where it stands, so that it ends. Assumes nothing.
-use Prim.Native.Nat.{◌-◌}
 use Rattle.class_compact.proofs.Loops.Walking.{walking_start, walking_inside, walking_rises, walking_more, walking_none, walking_some}
 use Rattle.class_compact_meaning.specs.Check.{letters_are}
 use Rattle.class_compact_meaning.specs.Inner.Links.{bits_of}

@@ -1,5 +1,4 @@
 -- The letters before k are their own and noted. Assumes nothing.
-use Prim.Native.Nat.{◌-◌}
 use Rattle.class_compact_meaning.proofs.Laws.Own.{owning_start, owning_more, owning_end, owning_fails}
 use mathlib.Core.Path.{sym, ◌∙◌}
 use native.Mathlib.Omega.{arith}

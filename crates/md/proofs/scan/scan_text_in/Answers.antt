@@ -1,6 +1,5 @@
 -- The invariant: the state is that after i characters, and both the stop and the first unclassed character are still to be found from i on.
 -- Assumes nothing.
-use Prim.Native.Nat.{◌-◌}
 use mathlib.Core.Path.{sym, ◌∙◌}
 use native.Mathlib.Omega.{arith}
 use Rattle.md.proofs.Loops.Going.{going_start, going_before, going_countable, going_missing, fed_countable, fed_counted, going_on, going_stopped, going_ended}

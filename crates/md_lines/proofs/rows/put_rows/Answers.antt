@@ -1,6 +1,5 @@
 -- The rows of the lines up to `from` fill the first `at` places, and the rest is as it was. The room keeps its length. Assumes nothing.
 use Rattle.md_utf8.proofs.Laws.Lendable.{lendable}
-use Prim.Native.Nat.{◌-◌}
 use native.Mathlib.Omega.{arith}
 use Rattle.md_lines.proofs.Loops.Filling.{filling_start, filling_room, filling_small, filling_more, filling_end}
 use borrow.Author.Rules.{rules}

@@ -1,5 +1,4 @@
 -- After each turn the ends before i are counted: those of a block more. What is left is shorter than a block. Assumes nothing.
-use Prim.Native.Nat.{◌-◌}
 use mathlib.Core.Path.{◌∙◌}
 use native.Mathlib.Omega.{arith}
 use lib.ListN.{length-take}

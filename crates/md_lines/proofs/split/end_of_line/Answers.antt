@@ -1,5 +1,4 @@
 -- The bytes passed hold no 0A. Assumes nothing.
-use Prim.Native.Nat.{◌-◌}
 use Rattle.md_lines_meaning.proofs.Laws.Lines.{passing_more, passing_hit, passing_end}
 use Rattle.md_lines.proofs.split.end_of_line.Goals as goal
 

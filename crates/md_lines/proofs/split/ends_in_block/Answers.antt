@@ -1,5 +1,4 @@
 -- After i turns the ends before i are counted. Assumes nothing.
-use Prim.Native.Nat.{◌-◌}
 use native.Mathlib.Omega.{arith}
 use Rattle.md_lines.proofs.Loops.Counting.{counting_start, counting_more, counting_few, counting_end}
 use Rattle.md_lines.proofs.split.ends_in_block.Goals as goal

@@ -1,6 +1,5 @@
 -- The bytes passed hold no 0A: each turn adds eight that were tested. Assumes nothing.
 use mathlib.Core.Path.{sym, ◌∙◌}
-use Prim.Native.Nat.{◌-◌}
 use native.Mathlib.Omega.{arith}
 use Rattle.md_lines_meaning.proofs.Laws.Lines.{passing_start, passing_on}
 use Rattle.md_lines.proofs.split.past_line_eights.Goals as goal

@@ -1,5 +1,4 @@
 -- The indexes that were passed and at which the numerator grew are counted. Assumes nothing.
-use Prim.Native.Nat.{◌-◌}
 use mathlib.Core.Path.{◌∙◌}
 use native.Mathlib.Omega.{arith}
 use Rattle.md_reason.proofs.Laws.Steps.{grew_is}

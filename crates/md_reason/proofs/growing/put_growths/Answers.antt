@@ -1,5 +1,4 @@
 -- The indexes that were passed and at which the numerator grew stand in the first places, and the rest is as it was. Assumes nothing.
-use Prim.Native.Nat.{◌-◌}
 use mathlib.Core.Path.{sym, ◌∙◌}
 use native.Mathlib.Omega.{arith}
 use Rattle.md_reason.proofs.Laws.Steps.{grew_is}

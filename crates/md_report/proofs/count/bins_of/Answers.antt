@@ -1,5 +1,4 @@
 -- After i lines the array has their bins. Assumes nothing.
-use Prim.Native.Nat.{◌-◌}
 use native.Mathlib.Omega.{arith}
 use Rattle.md_report.proofs.Loops.Counting.{bins_start, bins_long, bins_end}
 use borrow.Author.Rules.{rules}

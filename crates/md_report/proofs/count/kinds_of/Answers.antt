@@ -1,5 +1,4 @@
 -- After i lines the array has how many there are of each number. Assumes nothing.
-use Prim.Native.Nat.{◌-◌}
 use native.Mathlib.Omega.{arith}
 use Rattle.md_report.proofs.Loops.Counting.{kinds_start, kinds_long, kinds_end}
 use borrow.Author.Rules.{rules}

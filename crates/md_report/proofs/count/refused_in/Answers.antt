@@ -1,5 +1,5 @@
 -- After k numbers the sum is of their lines. Assumes nothing.
-use Prim.Native.Nat.{◌-◌, ◌+◌}
+use Prim.Native.Nat.{◌+◌}
 use native.Mathlib.Omega.{arith}
 use lib.ListN.{get_or}
 use Rattle.md_report_meaning.specs.Report.{MOST_LINES}

@@ -1,5 +1,4 @@
 -- After k bins the output has their lines. Assumes nothing.
-use Prim.Native.Nat.{◌-◌}
 use native.Mathlib.Omega.{arith}
 use Rattle.md_report_meaning.specs.Inner.Written.{bin_lines}
 use Rattle.md_report.proofs.Loops.Writing.{writing_start, writing_more, writing_end, writing_near, writing_length}

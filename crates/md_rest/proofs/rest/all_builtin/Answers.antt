@@ -1,5 +1,4 @@
 -- Where `all` is true, the built-in table has the characters passed. Assumes nothing.
-use Prim.Native.Nat.{◌-◌}
 use native.Mathlib.Omega.{arith}
 use Rattle.md_rest.proofs.Loops.Rest.{builtin_start, builtin_more, builtin_end}
 use Rattle.md_rest.proofs.rest.all_builtin.Goals as goal

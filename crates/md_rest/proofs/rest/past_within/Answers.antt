@@ -1,5 +1,4 @@
 -- The characters passed lie from low to high. Assumes nothing.
-use Prim.Native.Nat.{◌-◌}
 use native.Mathlib.Omega.{arith}
 use Rattle.md_rest.proofs.Loops.Rest.{past_start, past_more}
 use Rattle.md_rest.proofs.rest.past_within.Goals as goal

@@ -1,5 +1,4 @@
 -- The invariant: no character from `from` up to i is unclassed. Assumes nothing.
-use Prim.Native.Nat.{◌-◌}
 use mathlib.Core.Path.{refl}
 use native.Mathlib.Omega.{arith}
 use Rattle.md_rest.proofs.Loops.Rest.{rest_found, rest_more, rest_ended}

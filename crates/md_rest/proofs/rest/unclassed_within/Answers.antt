@@ -1,5 +1,4 @@
 -- The characters passed have a class (`Walking`). Assumes nothing.
-use Prim.Native.Nat.{◌-◌}
 use native.Mathlib.Omega.{arith}
 use Rattle.md_rest.proofs.Loops.Rest.{walking_start, walking_stuck, walking_more, walking_end}
 use Rattle.md_rest.proofs.rest.unclassed_within.Goals as goal

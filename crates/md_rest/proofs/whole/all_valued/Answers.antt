@@ -1,5 +1,4 @@
 -- Where `all` is true, the characters passed are scalar values. Assumes nothing.
-use Prim.Native.Nat.{◌-◌}
 use Rattle.md_rest.proofs.Loops.Whole.{valued_start, valued_more, valued_end}
 use Rattle.md_rest.proofs.whole.all_valued.Goals as goal
 

@@ -1,5 +1,4 @@
 -- The built-in table has the characters of the blocks passed. Assumes nothing.
-use Prim.Native.Nat.{◌-◌}
 use native.Mathlib.Omega.{arith}
 use Rattle.md_rest.proofs.Loops.Whole.{passed_start, passed_more}
 use Rattle.md_rest.proofs.whole.past_builtin.Goals as goal

@@ -1,5 +1,4 @@
 -- The sum so far is that of the records passed, which is no more than the code points before their end. Assumes nothing.
-use Prim.Native.Nat.{◌-◌}
 use mathlib.Core.Path.{◌≡◌}
 use native.Mathlib.Omega.{arith}
 use Rattle.class_records.specs.Records.{records}

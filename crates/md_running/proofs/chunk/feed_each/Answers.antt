@@ -1,5 +1,4 @@
 -- The invariant: the state is that after i characters, and the first that is refused is looked for from i on (`Chunking`). Assumes nothing.
-use Prim.Native.Nat.{◌-◌}
 use mathlib.Core.Path.{sym, ◌∙◌}
 use native.Mathlib.Omega.{arith}
 use Rattle.md_running.proofs.Loops.Chunk.{chunking_start, chunking_unsound, chunking_unclassed, chunking_taking, chunking_more, chunking_end}

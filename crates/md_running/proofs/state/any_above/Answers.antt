@@ -1,5 +1,4 @@
 -- What was found before k, or what is in the list from k on, is what is above in it all (`Looked`). Assumes nothing.
-use Prim.Native.Nat.{◌-◌}
 use Rattle.md_running.proofs.Loops.Above.{looked_start, looked_more, looked_end}
 use Rattle.md_running.proofs.state.any_above.Goals as goal
 

@@ -1,5 +1,5 @@
 -- Each turn looks at one more; the first that lies outside is kept. Assumes nothing.
-use Rattle.std.proofs.Common.{◌-◌, arith, rules}
+use Rattle.std.proofs.Common.{arith, rules}
 use Rattle.md_rest.proofs.Loops.Rest.{past_start}
 use Rattle.md_runs.proofs.Laws.Ahead.{looked_start, looked_more, looked_past}
 use Rattle.md_runs.proofs.ahead.past_ahead.Goals as goal

@@ -1,5 +1,4 @@
 -- The invariant: the first i places have what the characters have. Assumes nothing.
-use Prim.Native.Nat.{◌-◌}
 use mathlib.Core.Path.{ap}
 use Rattle.md_second.proofs.Loops.Lists.{laying_start, laying_more, laying_end}
 use borrow.Author.Rules.{rules}

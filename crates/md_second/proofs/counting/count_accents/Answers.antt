@@ -1,5 +1,4 @@
 -- The invariant: the two counts are those after i characters. Assumes nothing.
-use Prim.Native.Nat.{◌-◌}
 use Rattle.md_second.proofs.Loops.Upto.{upto_end}
 use Rattle.md_counts.specs.TooManyAccentuated.{counts}
 use Rattle.md_second.proofs.Loops.Counting.{accents_start, accents_more}

@@ -1,5 +1,4 @@
 -- The invariant: the two counts, and the last range if one is remembered, are those after i characters. Assumes nothing.
-use Prim.Native.Nat.{◌-◌}
 use Rattle.md_second.proofs.Loops.Upto.{upto_end}
 use mathlib.Core.Path.{refl}
 use Rattle.md_neighbours.specs.SuspiciousRange.{counts}

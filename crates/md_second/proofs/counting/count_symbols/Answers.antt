@@ -1,5 +1,4 @@
 -- The invariant: the three counts and the last printable character are those after i characters. Assumes nothing.
-use Prim.Native.Nat.{◌-◌}
 use Rattle.md_second.proofs.Loops.Upto.{upto_end}
 use Rattle.md_counts.specs.TooManySymbolOrPunctuation.{counts}
 use Rattle.md_second.proofs.Loops.Counting.{symbols_start, symbols_more}

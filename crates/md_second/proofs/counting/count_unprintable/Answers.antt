@@ -1,5 +1,4 @@
 -- The invariant: the count is that after i characters, all of which are counted. Assumes nothing.
-use Prim.Native.Nat.{◌-◌}
 use Rattle.md_counts.specs.Unprintable.{counts}
 use Rattle.md_second.proofs.Loops.Counting.{unprintable_start, unprintable_more, unprintable_end}
 use Rattle.md_second.proofs.counting.count_unprintable.Goals as goal

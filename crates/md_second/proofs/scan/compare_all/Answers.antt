@@ -1,5 +1,4 @@
 -- The invariant: the stop is still to be looked for from i on. Assumes nothing.
-use Prim.Native.Nat.{◌-◌}
 use native.Mathlib.Omega.{arith}
 use mathlib.Core.Path.{◌∙◌}
 use Rattle.md_second.proofs.Laws.After.{listed_less}

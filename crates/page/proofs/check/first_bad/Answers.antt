@@ -1,5 +1,4 @@
 -- The walk has passed only entries that are not bad, and each has left its mark (`Marking`). Assumes nothing.
-use Prim.Native.Nat.{◌-◌}
 use mathlib.Core.Path.{sym, ◌∙◌}
 use native.Mathlib.Omega.{arith}
 use Rattle.page.proofs.Loops.Marking.{marking_start, marking_new, marking_hit, marking_more, marking_end}

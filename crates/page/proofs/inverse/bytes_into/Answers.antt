@@ -1,5 +1,4 @@
 -- The first i places hold the bytes of the first i code points (`Copying`). Assumes nothing.
-use Prim.Native.Nat.{◌-◌}
 use mathlib.Core.Path.{refl}
 use native.Mathlib.Omega.{arith}
 use Rattle.page.proofs.Loops.Copying.{copying_start, copying_length, copying_room, copying_more, copying_end}

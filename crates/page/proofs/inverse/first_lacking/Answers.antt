@@ -1,5 +1,4 @@
 -- The walk has passed only code points that the page has. Assumes nothing.
-use Prim.Native.Nat.{◌-◌}
 use mathlib.Core.Path.{sym, ◌∙◌}
 use native.Mathlib.Omega.{arith}
 use Rattle.base.proofs.Laws.First.{first_start, first_hit, first_miss, first_end}

@@ -1,5 +1,4 @@
 -- The first b bytes stand at their code points (`Inverting`). Assumes nothing.
-use Prim.Native.Nat.{◌-◌}
 use native.Mathlib.Omega.{arith}
 use Rattle.page_meaning.proofs.Laws.Tables.{point_word}
 use Rattle.page.proofs.Loops.Inverting.{inverting_start, inverting_more, inverting_end}

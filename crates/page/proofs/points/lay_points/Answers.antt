@@ -1,5 +1,4 @@
 -- The code points of the first b bytes are laid out (`Laying`). Assumes nothing.
-use Prim.Native.Nat.{◌-◌}
 use Rattle.page.proofs.Loops.Laying.{laying_start, laying_more, laying_end}
 use Rattle.page.proofs.points.lay_points.Goals as goal
 

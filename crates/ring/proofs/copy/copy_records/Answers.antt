@@ -1,5 +1,4 @@
 -- The first i records stand at the front of the output, and the rest is as it was. Assumes nothing.
-use Prim.Native.Nat.{◌-◌}
 use mathlib.Core.Path.{refl}
 use native.Mathlib.Omega.{arith}
 use lib.ListN.{length-take}

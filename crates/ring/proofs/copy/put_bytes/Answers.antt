@@ -1,5 +1,4 @@
 -- After k turns the first k bytes stand in the output from `at` on. Assumes nothing.
-use Prim.Native.Nat.{◌-◌}
 use mathlib.Core.Path.{refl}
 use Rattle.base.proofs.Loops.Putting.{putting_start, putting_length, putting_room, putting_more, putting_end}
 use Rattle.ring.proofs.copy.put_bytes.Goals as goal

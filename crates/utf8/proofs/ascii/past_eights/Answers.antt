@@ -1,6 +1,5 @@
 -- The bytes passed are ASCII: each turn adds eight that were tested. Assumes nothing.
 use mathlib.Core.Path.{sym, ◌∙◌}
-use Prim.Native.Nat.{◌-◌}
 use native.Mathlib.Omega.{arith}
 use Rattle.utf8_meaning.proofs.Laws.Ascii.{run_none, run_eight}
 use Rattle.utf8.proofs.ascii.past_eights.Goals as goal

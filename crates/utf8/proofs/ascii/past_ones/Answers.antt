@@ -1,5 +1,4 @@
 -- The bytes passed are ASCII: each turn adds one that was tested. Assumes nothing.
-use Prim.Native.Nat.{◌-◌}
 use Rattle.utf8_meaning.proofs.Laws.Ascii.{run_none, run_more}
 use Rattle.utf8.proofs.ascii.past_ones.Goals as goal
 

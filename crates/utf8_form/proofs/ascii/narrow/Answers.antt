@@ -1,5 +1,4 @@
 -- After k turns the first k code points stand in the output from `at` on. Assumes nothing.
-use Prim.Native.Nat.{◌-◌}
 use native.Mathlib.Omega.{arith}
 use Rattle.base.proofs.Loops.Putting.{putting_start, putting_length, putting_room, putting_more, putting_end}
 use Rattle.utf8_form.proofs.ascii.narrow.Goals as goal

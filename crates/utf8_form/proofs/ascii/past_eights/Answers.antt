@@ -1,6 +1,5 @@
 -- The code points passed are ASCII: each turn adds eight that were tested. Assumes nothing.
 use mathlib.Core.Path.{sym, ◌∙◌}
-use Prim.Native.Nat.{◌-◌}
 use native.Mathlib.Omega.{arith}
 use Rattle.utf8_meaning.proofs.Laws.Ascii.{run_none, run_eight}
 use Rattle.utf8_form.proofs.ascii.past_eights.Goals as goal

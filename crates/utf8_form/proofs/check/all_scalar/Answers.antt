@@ -1,5 +1,4 @@
 -- What was found, with what is left, is all there is (`Checking`). Assumes nothing.
-use Prim.Native.Nat.{◌-◌}
 use Rattle.utf8_form.proofs.Loops.Checking.{checking_start, checking_more, checking_end}
 use Rattle.utf8_form.proofs.check.all_scalar.Goals as goal
 

@@ -1,5 +1,4 @@
 -- The bytes of the first i code points are counted (`Counting`). Assumes nothing.
-use Prim.Native.Nat.{◌-◌}
 use native.Mathlib.Omega.{arith}
 use Rattle.utf8_form.proofs.Loops.Counting.{counting_start, counting_more, counting_end}
 use Rattle.utf8_form.proofs.check.needed.Goals as goal
