@@ -2,7 +2,6 @@
 -- Assumes nothing.
 use native.Mathlib.Omega.{arith}
 use lib.ListN.{get_or}
-use Rattle.cd_languages.specs.Languages.{first_record}
 use Rattle.cd_languages.proofs.Laws.Languages.{first_record_small, good_most}
 use Rattle.cd_matches.proofs.Loops.Filling.{filling_start, filling_length, filling_room, filling_more, filling_end}
 use Rattle.cd_matches.proofs.included_records.Goals as goal

@@ -12,7 +12,7 @@ use lib.Dec.{T, eqb, ltb, lit<, lit≤}
 use lib.Arith.{lt_of_le-ne}
 use lib.Pow.{pow_pos}
 use lib.IntN.{ℤ, pos}
-use lib.Ieee.{Float, nan, inf, fin, binary32, up, down, round, add, div, of_int, of_bits, units, odd, le, fits, size}
+use lib.Ieee.{Float, nan, inf, fin, binary32, up, down, round, add, div, of_int, of_bits, units, odd, le, fits}
 use lib.Ieee.Back.{round_whole}
 use lib.Ieee.Bits.{is_true, of_bits-fits}
 use lib.Ieee.Exact.{HasValue}

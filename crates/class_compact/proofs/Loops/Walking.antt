@@ -7,7 +7,6 @@ use mathlib.Core.List.{List}
 use native.Mathlib.Numerals.{add-one}
 use native.Mathlib.Omega.{arith}
 use lib.ListN.{get_or}
-use Rattle.base.specs.First.{first}
 use Rattle.base.proofs.Laws.First.{first_is, first_none}
 use Rattle.base.proofs.Laws.Tests.{by_bool, split}
 use Rattle.class_compact_meaning.specs.Form.{base_at, lower_at}

@@ -10,4 +10,4 @@ pack_good-requires c = free_good _ (sym c.bad_classes.ensures ∙ c.in-Allowed.i
 pub returns-in-Refused : goal.returns-in-Refused
 returns-in-Refused c =
     let told = pack_bad _ _ _ _ (sym c.bad_classes.ensures ∙ c.in-Refused.is) in
-    record { value = told.0; records_after = told.1; letters_after = told.2 }
+    record { value = told.0; records_after = told.1.0; letters_after = told.1.1 }

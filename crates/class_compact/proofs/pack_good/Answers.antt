@@ -44,7 +44,7 @@ slice_bounds-put_out-end-2 c =
 pub put_out-requires : goal.put_out-requires
 put_out-requires c = (
   c.requires,
-  records_front _ (MOST_CLASSES * COMPACT_RECORD) _ (let few = table_number _ c.requires in omega (arith, few)) c.pack_into-count.ensures.packed_after.0,
+  records_front _ (MOST_CLASSES * COMPACT_RECORD) _ (let few = table_number _ c.requires in omega (arith, few)) c.pack_into-count.ensures.packed_after,
   letters_front _ (MOST_CLASSES * LETTERS_RECORD) _ _ c.pack_into-count.ensures.value
-      (let few = letters_few _ _ c.requires c.pack_into-count.ensures.value in omega (arith, few)) c.pack_into-count.ensures.packed_after.1,
+      (let few = letters_few _ _ c.requires c.pack_into-count.ensures.value in omega (arith, few)) c.pack_into-count.ensures.used_after,
 )

@@ -10,7 +10,7 @@ use Rattle.class_compact.proofs.put_out.Goals as goal
 pub returns-then-records-packed : goal.returns-then-records-packed
 returns-then-records-packed c =
     let told = pack_short _ _ _ c.requires.0 (rw (c.requires.1, c.requires.2) at c.if-records-packed.true) in
-    record { value = rw c.packing_refused.ensures told.0; records_after = told.1; letters_after = told.2 }
+    record { value = rw c.packing_refused.ensures told.0; records_after = told.1.0; letters_after = told.1.1 }
 
 pub lay-requires : goal.lay-requires
 lay-requires c =
@@ -35,4 +35,8 @@ overflow_cast-used c =
 pub returns : goal.returns
 returns c =
     let told = pack_done _ _ _ c.requires.0 (rw (c.requires.1, c.requires.2) at c.if-records-packed.false) in
-    record { value = rw (c.packing_done.ensures, c.requires.1, c.requires.2) told.0; records_after = told.1; letters_after = rw (c.lay-2.ensures, c.lay.ensures) told.2 }
+    record {
+      value = rw (c.packing_done.ensures, c.requires.2) told.0;
+      records_after = rw (c.lay.ensures, c.requires.1) told.1.0;
+      letters_after = rw (c.lay-2.ensures, c.requires.2) told.1.1;
+    }

@@ -6,10 +6,9 @@ use mathlib.Core.Bool.{true, false, not, ◌||◌}
 use mathlib.Core.List.{List, [], ◌∷◌}
 use native.Mathlib.Omega.{arith}
 use lib.ListN.{length, take}
-use lib.Dec.{eqb, ltb}
+use lib.Dec.{ltb}
 use borrow.Author.Tests.{eq-eqb, ne_eqb, lt-ltb, le-ltb, ltb-false}
 use Rattle.base.specs.declared.Refusal.{Refusal}
-use Rattle.base.specs.declared.Cause.{Cause}
 use Rattle.base.specs.declared.Cause.TheVariants.{Allowed, Refused}
 use Rattle.base.specs.declared.Counted.TheVariants.{Count, Refused as NotCounted}
 use Rattle.base.specs.Causes.{refused_at, given, first_of}
@@ -24,7 +23,7 @@ use Rattle.class_records.specs.Records.{records, good_table}
 use Rattle.class_records.proofs.Laws.Records.{table_number}
 use Rattle.classes.specs.Check.{bad_classes}
 use Rattle.classes.proofs.Laws.Check.{good_free}
-use Rattle.class_compact_meaning.specs.declared.Packing.TheVariants.{Packed, Refused as NotPacked}
+use Rattle.class_compact_meaning.specs.declared.Packing.TheVariants.{Refused as NotPacked}
 use Rattle.class_compact_meaning.specs.Form.{COMPACT_RECORD, LETTERS_RECORD, compact_records, letters_in}
 use Rattle.class_compact_meaning.specs.Unpacked.{unpacked}
 use Rattle.class_compact_meaning.specs.Check.{first_bad_record, first_bad_letters, bad_compact_length, bad_compact_number, bad_compact_record, bad_letters_length, bad_letters_record, bad_compact}

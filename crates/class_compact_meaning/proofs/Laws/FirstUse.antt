@@ -8,7 +8,7 @@ use mathlib.Core.List.{List}
 use native.Mathlib.Omega.{arith}
 use lib.Dec.{eqb, leb, ltb}
 use borrow.Author.Tests.{eqb-true, eqb-false, eq-eqb, ne_eqb, leb-true, le-leb, ltb-true, ltb-false, lt-ltb, le-ltb}
-use Rattle.base.specs.First.{first, each}
+use Rattle.base.specs.First.{each}
 use Rattle.base.proofs.Laws.First.{first_found, first_within, each_at, each_all}
 use Rattle.base.proofs.Laws.Tests.{by_bool, by_test, split, and_l, and_r, and_yes}
 use Rattle.class_compact_meaning.specs.Form.{compact_records, place_at}

@@ -8,13 +8,12 @@ use mathlib.Core.Bool.{Bool, true, false, not, ◌&&◌}
 use mathlib.Core.List.{List, [], ◌∷◌, ◌++◌}
 use native.Mathlib.Numerals.{add-one}
 use native.Mathlib.Omega.{arith}
-use lib.ListN.{length, get_or, take, length-append, get_or-append}
+use lib.ListN.{length, get_or, length-append, get_or-append}
 use lib.Seq.{get_or-take, get_or-append-add}
 use lib.Dec.{eqb}
 use borrow.Author.Tests.{eqb-true, eq-eqb, not-true}
 use Rattle.base.specs.First.{first}
 use Rattle.base.specs.Limits.{CLASS_RECORD}
-use Rattle.base.specs.LittleEndian.{le32}
 use Rattle.base.proofs.Laws.First.{first_is, first_none, first_before, first_within}
 use Rattle.base.proofs.Laws.Tests.{by_bool, split, and_l, and_r, and_yes}
 use Rattle.class_records.specs.Records.{records, record_at}

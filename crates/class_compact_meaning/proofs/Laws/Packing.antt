@@ -2,14 +2,14 @@
 -- Assumes nothing.
 use Prim.Native.Nat.{ℕ, zero, suc, ◌+◌, ◌-◌, ◌*◌, ◌/◌, ◌%◌, ◌≤◌, ◌<◌}
 use mathlib.Core.Path.{◌≡◌, refl, sym, ap, ◌∙◌}
-use mathlib.Core.Bool.{true, false, not, ◌&&◌}
+use mathlib.Core.Bool.{true, false, ◌&&◌}
 use mathlib.Core.List.{List, ◌∷◌, ◌++◌}
 use native.Mathlib.Omega.{arith}
 use lib.ListN.{length, get_or, get_or-append}
-use lib.Dec.{eqb, leb, ltb}
+use lib.Dec.{eqb, leb}
 use borrow.Author.Tests.{eqb-true, eq-eqb, le-leb, lt-ltb, le-ltb}
 use Rattle.base.specs.declared.Cause.TheVariants.{Allowed}
-use Rattle.base.specs.First.{first, each}
+use Rattle.base.specs.First.{first}
 use Rattle.base.specs.Limits.{CLASS_RECORD}
 use Rattle.base.specs.LittleEndian.{le16}
 use Rattle.base.specs.Tests.{within}
@@ -19,7 +19,7 @@ use Rattle.class_records.specs.Records.{records, record_at, good_table}
 use Rattle.class_records.proofs.Laws.Records.{table_number, table_fields}
 use Rattle.classes.proofs.Laws.Check.{good_free}
 use Rattle.ring_meaning.specs.Record.{le_bytes}
-use Rattle.class_compact_meaning.specs.Form.{COMPACT_RECORD, Bytes, SHARED_BYTES, LETTERS_RECORD, LETTERS_AT, compact_records, letters_in, place_at, base_at, lower_at, bytes_from, joined}
+use Rattle.class_compact_meaning.specs.Form.{COMPACT_RECORD, Bytes, SHARED_BYTES, LETTERS_RECORD, LETTERS_AT, compact_records, letters_in, place_at, base_at, lower_at, bytes_from}
 use Rattle.class_compact_meaning.specs.Unpacked.{letters_bytes, expansion, unpacked}
 use Rattle.class_compact_meaning.specs.Check.{no_letters, letters_are, repeated, bad_compact}
 use Rattle.class_compact_meaning.specs.Packed.{plain, alike, first_alike, is_new, letters_before, packed_place, compacted, packed_records, packed_letters}

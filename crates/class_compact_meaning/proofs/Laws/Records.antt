@@ -5,7 +5,7 @@ use mathlib.Core.Path.{◌≡◌, ap, ◌∙◌}
 use mathlib.Core.Bool.{not}
 use mathlib.Core.List.{List}
 use Rattle.base.specs.First.{first}
-use Rattle.class_records.specs.Records.{records, good_at, first_bad}
+use Rattle.class_records.specs.Records.{good_at, first_bad}
 use Rattle.class_compact_meaning.specs.Form.{compact_records}
 use Rattle.class_compact_meaning.specs.Unpacked.{unpacked}
 use Rattle.class_compact_meaning.specs.Check.{missing, bad_record_at, first_bad_record}

@@ -25,7 +25,6 @@ use Rattle.classes.specs.Check.{bad_classes}
 use Rattle.classes.proofs.Laws.Check.{record_refused, passed}
 use Rattle.class_compact_meaning.specs.Form.{COMPACT_RECORD, LETTERS_RECORD, compact_records, letters_in, place_at}
 use Rattle.class_compact_meaning.specs.Unpacked.{unpacked}
-use Rattle.class_compact_meaning.specs.Check as checks
 use Rattle.class_compact_meaning.specs.Check.{missing, bad_record_at, first_bad_record, unused, no_letters, repeated, early, bad_letters, first_bad_letters, bad_compact_length, bad_compact_number}
 use Rattle.class_compact_meaning.specs.Check.{bad_compact_record, bad_letters_length, bad_letters_record, bad_compact}
 use Rattle.class_compact_meaning.specs.Inner.Form.{Sized, wrong_list}

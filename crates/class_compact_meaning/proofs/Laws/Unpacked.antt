@@ -2,7 +2,7 @@
 -- (`unpacked_length`, `unpacked_records`); and the base and lower of each are those at its place (`base_there`, `lower_there`, `base_none`, `lower_none`).
 -- Assumes nothing.
 use Prim.Native.Nat.{ℕ, suc, ◌+◌, ◌-◌, ◌*◌, ◌/◌, ◌≤◌, ◌<◌}
-use mathlib.Core.Path.{◌≡◌, refl, ap, ◌∙◌}
+use mathlib.Core.Path.{◌≡◌, refl, ◌∙◌}
 use mathlib.Core.Bool.{true, false}
 use mathlib.Core.List.{List, ◌∷◌}
 use native.Mathlib.Omega.{arith}
@@ -14,7 +14,7 @@ use Rattle.base.specs.Put.{put}
 use Rattle.base.specs.Tests.{within}
 use Rattle.base.proofs.Laws.Tests.{within_lo, within_hi, cond_both}
 use Rattle.class_records.specs.Records.{records, record_at}
-use Rattle.class_compact_meaning.specs.Form.{COMPACT_RECORD, SHARED_BYTES, LETTERS_RECORD, LETTERS_AT, compact_records, letters_in, place_at, base_at, lower_at, bytes_from, joined}
+use Rattle.class_compact_meaning.specs.Form.{COMPACT_RECORD, SHARED_BYTES, LETTERS_RECORD, LETTERS_AT, compact_records, letters_in, place_at, base_at, lower_at, bytes_from}
 use Rattle.class_compact_meaning.specs.Unpacked.{letters_bytes, expansion, unpacked}
 use Rattle.class_compact_meaning.proofs.Laws.Form.{bytes_length, bytes_at, bytes_slice, le32_same, joined_length, joined_at}
 

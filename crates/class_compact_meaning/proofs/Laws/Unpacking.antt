@@ -2,12 +2,11 @@
 -- Assumes nothing.
 use Prim.Native.Nat.{ℕ, zero, suc, ◌+◌, ◌-◌, ◌*◌, ◌/◌, ◌%◌, ◌≤◌, ◌<◌}
 use mathlib.Core.Path.{◌≡◌, refl, sym, ap, ◌∙◌}
-use mathlib.Core.Bool.{true, false, not}
+use mathlib.Core.Bool.{true, false}
 use mathlib.Core.List.{List, ◌∷◌, ◌++◌}
 use native.Mathlib.Nat.{zero-add}
 use native.Mathlib.Omega.{arith}
-use lib.ListN.{length, get_or, get_or-append}
-use lib.Dec.{eqb, leb, ltb}
+use lib.ListN.{length, get_or-append}
 use borrow.Author.Tests.{eq-eqb, ne_eqb, leb-true, lt-ltb, le-ltb}
 use Rattle.base.specs.declared.Cause.TheVariants.{Allowed}
 use Rattle.base.specs.First.{first}
@@ -26,7 +25,7 @@ use Rattle.class_compact_meaning.proofs.Laws.Bytes.{half_back}
 use Rattle.class_compact_meaning.proofs.Laws.Firsts.{clash, first_least}
 use Rattle.class_compact_meaning.proofs.Laws.FirstUse.{place_seen, used_by, next_all, all_seen}
 use Rattle.class_compact_meaning.proofs.Laws.Form.{bytes_length, bytes_at, bytes_all, bytes_same, bytes_split, joined_same, joined_at, joined_table}
-use Rattle.class_compact_meaning.proofs.Laws.Numbering.{both, both_yes, alike_base, alike_lower, alike_of, alike_at, alike_first, first_new, before_new}
+use Rattle.class_compact_meaning.proofs.Laws.Numbering.{both_yes, alike_base, alike_lower, alike_of, alike_at, alike_first, first_new, before_new}
 use Rattle.class_compact_meaning.proofs.Laws.Numbering.{before_old, place_none, place_some}
 use Rattle.class_compact_meaning.proofs.Laws.Sound.{Good, good_parts, record_there, table_allowed, good_order, good_some, good_once}
 use Rattle.class_compact_meaning.proofs.Laws.Unpacked.{expansion_length, unpacked_records, base_none, lower_none, base_there, lower_there, at_letters, there}

@@ -1,7 +1,7 @@
 -- The walk for the first bad entry (`Marking`): it has passed only entries that are not bad, and each has left its mark, so that an entry without a
 -- mark stands nowhere before. Its start, its step and its end. Assumes nothing.
 use Prim.Native.Nat.{ℕ, ◌+◌, ◌%◌, ◌≤◌, ◌<◌}
-use mathlib.Core.Path.{◌≡◌, refl, sym, ap, ◌∙◌}
+use mathlib.Core.Path.{◌≡◌, sym, ap, ◌∙◌}
 use mathlib.Core.Bool.{Bool, true, false}
 use mathlib.Core.List.{List}
 use native.Mathlib.Omega.{arith}

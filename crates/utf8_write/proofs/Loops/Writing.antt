@@ -11,7 +11,7 @@ use Rattle.base.specs.Put.{put}
 use Rattle.base.proofs.Laws.Put.{put_length, put_back, put_all}
 use Rattle.base.proofs.Laws.Tests.{split}
 use Rattle.utf8_table.specs.Encoding.{encode, encode_all, scalars}
-use Rattle.utf8_table.proofs.Laws.Encoding.{encode_1, encode_2, encode_3, encode_4, encode_size, scalar_top}
+use Rattle.utf8_table.proofs.Laws.Encoding.{encode_1, encode_2, encode_3, encode_4, scalar_top}
 use Rattle.utf8_meaning.specs.Inner.Ascii.{AsciiRun}
 use Rattle.utf8_meaning.proofs.Laws.Going.{run_length}
 use Rattle.utf8_form.specs.Inner.Below.{AllAscii}

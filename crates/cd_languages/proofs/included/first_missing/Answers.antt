@@ -4,7 +4,7 @@ use native.Mathlib.Omega.{arith}
 use mathlib.Core.Bool.{not}
 use mathlib.Core.Path.{sym, ap, ◌∙◌}
 use Rattle.base.proofs.Laws.First.{first_start, first_hit, first_miss, first_end}
-use Rattle.cd_languages.specs.Included.{in_table, first_missing}
+use Rattle.cd_languages.specs.Included.{first_missing}
 use Rattle.cd_languages.proofs.included.first_missing.Goals as goal
 
 pub loop-i-init : goal.loop-i-init

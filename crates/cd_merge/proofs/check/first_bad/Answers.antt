@@ -3,7 +3,7 @@ use mathlib.Core.Path.{sym, ap, ◌∙◌}
 use mathlib.Core.Bool.{not}
 use native.Mathlib.Omega.{arith}
 use Rattle.base.proofs.Laws.First.{first_start, first_hit, first_miss, first_end}
-use Rattle.cd_merge_meaning.specs.Answer.{is_score, first_bad}
+use Rattle.cd_merge_meaning.specs.Answer.{first_bad}
 use Rattle.cd_merge.proofs.check.first_bad.Goals as goal
 
 pub loop-i-init : goal.loop-i-init

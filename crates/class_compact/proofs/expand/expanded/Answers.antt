@@ -1,14 +1,10 @@
 -- The shared bytes and the letters are laid over zeros, each in its place. Assumes nothing.
 use Rattle.base.proofs.Laws.Tests.{within_lo}
-use Rattle.class_compact_meaning.proofs.Laws.Unpacked.{place_inside, expanded_with, expanded_without}
+use Rattle.class_compact_meaning.proofs.Laws.Unpacked.{expanded_with, expanded_without}
 use Rattle.class_compact.proofs.expand.expanded.Goals as goal
 
 pub overflow_sub-at : goal.overflow_sub-at
 overflow_sub-at c = within_lo 1 _ _ c.if-place-letters.true
-
-pub slice_bounds-lay-end-2 : goal.slice_bounds-lay-end-2
-slice_bounds-lay-end-2 c =
-    place_inside c.args.letters.now _ c.if1.true
 
 pub returns-then-place-letters : goal.returns-then-place-letters
 returns-then-place-letters c =

@@ -1,6 +1,6 @@
 -- No letters before k are bad, and k has 16 bits since those before it are used. Assumes nothing.
 use Rattle.class_compact.proofs.Loops.Seeking.{seeking_start, seeking_hit, seeking_more, seeking_end}
-use Rattle.class_compact_meaning.specs.Check.{bad_letters, first_bad_letters}
+use Rattle.class_compact_meaning.specs.Check.{first_bad_letters}
 use mathlib.Core.Path.{sym, ◌∙◌}
 use native.Mathlib.Omega.{arith}
 use Rattle.class_compact.proofs.fault.first_bad_letters.Goals as goal

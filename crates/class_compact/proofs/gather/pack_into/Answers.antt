@@ -25,8 +25,9 @@ shape_of-used c =
 
 pub returns : goal.returns
 returns c =
-    let told = let done = c.loop-i.invariant in (
-      gathered_number _ _ _ done c.loop-i-test.false,
-      (gathered_records _ _ _ done c.loop-i-test.false, gathered_letters _ _ _ done c.loop-i-test.false),
-    ) in
-    record { value = told.0; packed_after = told.1; used_after = told.2 }
+    let done = c.loop-i.invariant in
+    record {
+      value = gathered_number _ _ _ done c.loop-i-test.false;
+      packed_after = gathered_records _ _ _ done c.loop-i-test.false;
+      used_after = gathered_letters _ _ _ done c.loop-i-test.false;
+    }
