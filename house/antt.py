@@ -4,6 +4,7 @@ import re
 from pathlib import Path
 
 WORDS = ("abbrev", "unfoldable", "pub", "record", "data")
+CRATES = Path(__file__).resolve().parent.parent / "crates"
 TOKEN = re.compile(r"\[\]|[^\s(){},;\[\]\"]+")
 
 
@@ -61,8 +62,8 @@ def is_clause(line, item):
     first = text.split()[0]
     if first == item.name:
         return True
-    if "_" in item.name.strip("_") or item.name.startswith("_"):
-        operator = item.name.strip("_")
+    if "◌" in item.name:
+        operator = item.name.strip("◌")
         return "=" in text and operator in text.split("=")[0].split()
     return False
 
@@ -167,12 +168,9 @@ def read(path, module):
 
 def module_of(path):
     """The module that a path of an import names: (crate, library, names), or None where it is the kit's."""
-    own = re.fullmatch(r"Rattle·([a-z_0-9]+)·(specs|proofs)\.(specs|proofs)(?:\.(.*))?", path)
-    other = re.fullmatch(r"Rattle·([a-z_0-9]+)\.(specs|proofs)(?:\.(.*))?", path)
-    if own:
-        return own.group(1), own.group(3), own.group(4) or ""
-    if other:
-        return other.group(1), other.group(2), other.group(3) or ""
+    found = re.fullmatch(r"Rattle\.([a-z_0-9]+)\.(specs|proofs)(?:\.(.*))?", path)
+    if found and (CRATES / found.group(1)).is_dir():
+        return found.group(1), found.group(2), found.group(3) or ""
     return None
 
 

@@ -5,7 +5,7 @@ from pathlib import Path
 
 import antt
 
-# The public calls, by crate; of host every exported entry.
+# The public calls, by crate; of host every entry.
 CALLS = {
     "classes": ["check_classes"],
     "utf8": ["read_utf8"],
@@ -34,35 +34,41 @@ CALLS = {
     "program": ["report"],
     "host": None,
 }
+# How the names of the host's entries begin: functions of host, which host_c exports under the same names (house/header.py holds their contracts together).
+ENTRY = "drasumira_"
 # Statements that are promises themselves.
 STATEMENTS = [
-    ("md_meaning", "DemandThree", "demand-three"),  # demand 3
-    ("md_meaning", "Counts", "counts-so"),  # 02 [7]: what the counts of an answer say of its ratios and of demand 3's fractions
-    ("utf8_meaning", "Read", "accepted-encodes"),  # the reader's text is the one whose encoding the bytes are
-    ("utf8_write_meaning", "RoundTrips", "written-bytes"),  # the bytes written are the encodings of the text, one after the other
-    ("utf8_write_meaning", "RoundTrips", "written-read"),  # reading what was written gives the text
-    ("utf8_write_meaning", "RoundTrips", "read-written"),  # writing what was read gives the bytes
-    ("page_meaning", "RoundTrips", "write-after-read"),  # writing what was read gives the same bytes
-    ("page_meaning", "RoundTrips", "read-after-write"),  # reading what was written gives the same text
+    ("md_meaning", "DemandThree", "demand_three"),  # demand 3
+    ("md_meaning", "Counts", "counts_so"),  # 02 [7]: what the counts of an answer say of its ratios and of demand 3's fractions
+    ("utf8_meaning", "Read", "accepted_encodes"),  # the reader's text is the one whose encoding the bytes are
+    ("utf8_write_meaning", "RoundTrips", "written_bytes"),  # the bytes written are the encodings of the text, one after the other
+    ("utf8_write_meaning", "RoundTrips", "written_read"),  # reading what was written gives the text
+    ("utf8_write_meaning", "RoundTrips", "read_written"),  # writing what was read gives the bytes
+    ("page_meaning", "RoundTrips", "write_after_read"),  # writing what was read gives the same bytes
+    ("page_meaning", "RoundTrips", "read_after_write"),  # reading what was written gives the same text
     ("marked_cases", "Marked", "marked"),  # 01's cases (a) to (l)
-    ("md_running_meaning", "Line", "line-follows"),  # 02 [6]: the state after k characters is the scan's, up to the stop, and stays there after it
-    ("md_running_meaning", "Line", "line-whole"),  # a line that was fed in full answers what the whole call answers
-    ("md_running_meaning", "Chunk", "chunk-one-by-one"),  # an accepted chunk leaves what its characters leave one by one
-    ("md_growth", "Growth", "last-growth"),  # 02 [8]: the state keeps the index of each detector's last growth
-    ("class_compact_meaning", "Back", "packed-unpacked"),  # 02 [9]: a good table packs to a good compact one and comes back with the same bytes
-    ("class_compact_meaning", "Back", "unpacked-packed"),  # and the other way round
-    ("md_compact", "Either", "compact-same"),  # scoring with a good compact table is scoring with its expansion
-    ("md_compact", "Either", "packed-same"),  # and with what a good table packs to, scoring with that table
-    ("md_second", "Agreed", "second-agrees"),  # 02 [10]: the two engines answer alike
+    ("md_running_meaning", "Line", "line_follows"),  # 02 [6]: the state after k characters is the scan's, up to the stop, and stays there after it
+    ("md_running_meaning", "Line", "line_whole"),  # a line that was fed in full answers what the whole call answers
+    ("md_running_meaning", "Chunk", "chunk_one_by_one"),  # an accepted chunk leaves what its characters leave one by one
+    ("md_growth", "Growth", "last_growth"),  # 02 [8]: the state keeps the index of each detector's last growth
+    ("class_compact_meaning", "Back", "packed_unpacked"),  # 02 [9]: a good table packs to a good compact one and comes back with the same bytes
+    ("class_compact_meaning", "Back", "unpacked_packed"),  # and the other way round
+    ("md_compact", "Either", "compact_same"),  # scoring with a good compact table is scoring with its expansion
+    ("md_compact", "Either", "packed_same"),  # and with what a good table packs to, scoring with that table
+    ("md_second", "Agreed", "second_agrees"),  # 02 [10]: the two engines answer alike
     ("ring_meaning", "History", "history"),  # 02 [11]: the accepted puts of a history of calls are the flushed records and those in the ring
-    ("md_thresholds", "Thresholds", "higher-compared"),  # 02 [12]: what a higher threshold does, in three sentences
-    ("md_thresholds", "Thresholds", "above-all"),  # no scan stops early at a threshold above HIGHEST
-    ("md_report_meaning", "Report", "bins-add-up"),  # 02 [13]: the bins of each detector add up to the accepted lines
-    ("md_report_meaning", "Report", "lines-add-up"),  # and that sum with the refused lines is the number of lines given
-    ("md_report_meaning", "Report", "numbers-add-up"),  # the lines refused with each number add up to the refused
-    ("md_report_meaning", "Longest", "report-fits"),  # no text of a month is longer than LONGEST-REPORT
-    ("cd_merge_meaning", "Merge", "means-between"),  # 02 [14]: each mean, rounding included, lies between 0 and 1
+    ("md_thresholds", "Thresholds", "higher_compared"),  # 02 [12]: what a higher threshold does, in three sentences
+    ("md_thresholds", "Thresholds", "above_all"),  # no scan stops early at a threshold above HIGHEST
+    ("md_report_meaning", "Report", "bins_add_up"),  # 02 [13]: the bins of each detector add up to the accepted lines
+    ("md_report_meaning", "Report", "lines_add_up"),  # and that sum with the refused lines is the number of lines given
+    ("md_report_meaning", "Report", "numbers_add_up"),  # the lines refused with each number add up to the refused
+    ("md_report_meaning", "Longest", "report_fits"),  # no text of a month is longer than LONGEST_REPORT
+    ("cd_merge_meaning", "Merge", "means_between"),  # 02 [14]: each mean, rounding included, lies between 0 and 1
 ]
+
+
+# the files of a function's proof, beside lemmas
+PROOF_FILES = {"Invariants", "Answers", "Proof"}
 
 
 class House:
@@ -72,7 +78,7 @@ class House:
         for library in ("specs", "proofs"):
             for path in sorted((self.root / "crates").glob(f"*/{library}/**/*.antt")):
                 crate, _, *names = path.relative_to(self.root / "crates").with_suffix("").parts
-                if library == "proofs" and (names[-1] == "Proof" or "Proof" in names[:-1]):
+                if library == "proofs" and (PROOF_FILES & set(names)):
                     continue
                 self.files[(crate, library, ".".join(names))] = antt.read(path, (crate, library, ".".join(names)))
         self.index = {m: f.by_name() for m, f in self.files.items()}
@@ -85,7 +91,7 @@ class House:
         if not word:
             return None
         own = self.index.get(file.module, {})
-        for name in (word, f"_{word}_"):
+        for name in (word, f"◌{word}◌"):
             name = self.makers.get(file.module, {}).get(name, name)
             if name in own:
                 return file.module, name
@@ -102,7 +108,7 @@ class House:
             return None
         crate, library, names = module
         if names.startswith("declared"):
-            return "declared", crate, names.removeprefix("declared.").removesuffix(".the-variants")
+            return "declared", crate, names.removeprefix("declared.").removesuffix(".TheVariants")
         if (crate, library, names) not in self.index:
             return None
         name = self.makers[(crate, library, names)].get(name, name)
@@ -162,9 +168,9 @@ class House:
                 head = text[call.start() : text.index("\n" + call.group(1) + "{", call.start()) if "\n" + call.group(1) + "{" in text[call.start() :] else len(text)]
                 if re.search(r"fn \w+[^\n]*\{$", head.split("\n")[0]):
                     continue
-                if wanted is not None and name not in wanted or (wanted is None and crate == "host" and not call.group(3)):
+                if wanted is not None and name not in wanted or (wanted is None and crate == "host" and not name.startswith(ENTRY)):
                     continue
-                for kind, clause in re.findall(r"(?m)^\s*(requires|ensures) \{(.*)\}$", head):
+                for kind, clause in re.findall(r"(?m)^\s*(requires|ensures)(?: \w+)? \{(.*)\}$", head):
                     if kind in kinds:
                         yield name, names, aliases, clause
 
@@ -174,7 +180,7 @@ class House:
         for path in sorted((self.root / "crates" / crate / "src").glob("**/*.rt")):
             text = path.read_text(encoding="utf-8")
             for call in re.finditer(r"(?m)^pub (extern \"C\" )?fn (\w+)[\s\S]*?(?=\n\{)", text):
-                if call.group(2) in wanted if wanted is not None else call.group(1):
+                if call.group(2) in wanted if wanted is not None else call.group(2).startswith(ENTRY):
                     out.append(call.group(0))
                     for module, names in re.findall(r"ghost use (\S+?)\.\{([^}]*)\};", text):
                         where = antt.module_of(module)

@@ -100,7 +100,7 @@ def other_names(house, module, items, seen):
     page have that name."""
     file, told = house.files[module], []
     words = [w.strip(".") for i in items for w in antt.tokens(i.text())]
-    infix = {f"_{w}_" for w in words}
+    infix = {f"◌{w}◌" for w in words}
     for word in dict.fromkeys(words + [n for n in file.names if n in infix]):
         if word in file.names and file.names[word][1] != word:
             path, name = file.names[word]
@@ -181,7 +181,7 @@ def write(house, seen, types):
         rest = [f"{m[0]}/{m[2].replace('.', '/')} {n}" for m, n in sorted(left)] + [f"type {c} {n}" for c, n in sorted(untyped)]
         raise Fault("believed, and under no sentence of house/sentences.txt:\n" + "\n".join(rest))
     out.append("\n## The calls\n")
-    out.append('"Every public call has a result stated for all inputs, refusals and lent contents included": what each is held to, as its source says it. `now (x .entry)` is what a slice holds when the call begins, `now (x .exit)` when it returns.\n')
+    out.append('"Every public call has a result stated for all inputs, refusals and lent contents included": what each is held to, as its source says it. `x.now` is what a slice holds that is lent to be read; of one that is lent to be written `x.old` is what it holds when the call begins, `x.new` when it returns.\n')
     for crate, calls in believed.CALLS.items():
         signatures, here = house.signatures(crate, calls)
         out.append(f"`crates/{crate}/src`{f' ({here})' if here else ''}\n\n```rust\n" + "\n\n".join(signatures) + "\n```\n")

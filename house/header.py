@@ -1,6 +1,7 @@
 #!/usr/bin/env python3
-"""Whether include/drasumira.h is the library's: every entry of crates/host and no other stands in it, declared as rust/src/host* and docs/HOST.md declare it; each struct has
+"""Whether include/drasumira.h is the library's: every entry of crates/host_c and no other stands in it, declared as rust/src/host* and docs/HOST.md declare it; each struct has
 the members, types and offsets of the Rust declaration and an assertion for each; refusals, flags, limits, thresholds and the version have the numbers that stand elsewhere.
+Each entry of crates/host_c promises, word for word, what the function of crates/host that has its name does.
 
 What is called HostX in Rust and in HOST.md is called DrasumiraX in the header, and any other X DrasumiraX too. That the header's assertions hold of its own structs a
 compiler says, in the step of ./test that unpacks the package."""
@@ -10,6 +11,7 @@ from pathlib import Path
 
 ROOT = Path(__file__).resolve().parent.parent
 HEADER = "include/drasumira.h"
+EXPORT = "#[unsafe(no_mangle)]"
 NUMBERS = {"u8": "uint8_t", "u16": "uint16_t", "u32": "uint32_t", "u64": "uint64_t", "usize": "size_t", "f32": "float"}
 BY_VALUE = 16
 # The lists of drasumira_merge are u32 in crates/host, two for each entry; hosts have them as entries.
@@ -112,11 +114,22 @@ def rattle_type(kind):
     return [c_name(kind)]
 
 
+def rattle(crate):
+    """The text of a crate's sources, without comments."""
+    return "".join(re.sub(r"//.*", "", path.read_text(encoding="utf-8")) for path in sorted((ROOT / "crates" / crate / "src").glob("**/*.rt")))
+
+
+def promises(code, sign):
+    """The functions that begin with the sign, each with its parameters, result and clauses, spaces left out."""
+    heads = re.findall(rf"^{sign}fn (\w+)(\(.*?)\n\{{", code, re.S | re.M)
+    return {name: re.sub(r"\s+", "", head).replace(",)", ")") for name, head in heads}
+
+
 def rattle_entries(header):
-    code = "".join(re.sub(r"//.*", "", path.read_text(encoding="utf-8")) for path in sorted((ROOT / "crates/host/src").glob("**/*.rt")))
-    marks = code.count("#[no_mangle]")
-    found = re.findall(r'#\[no_mangle\]\s*pub extern "C" fn (\w+)\((.*?)\) -> (\w+)', code, re.S)
-    assert marks == len(found), f"crates/host has {marks} entries, of which {len(found)} are understood"
+    code = rattle("host_c")
+    marks = code.count(EXPORT)
+    found = re.findall(rf'{re.escape(EXPORT)}\s*pub extern "C" fn (\w+)\((.*?)\) -> (\w+)', code, re.S)
+    assert marks == len(found), f"crates/host_c has {marks} entries, of which {len(found)} are understood"
     for name, words, kind in found:
         arguments = [c for a in words.split(",") if a.strip() for c in rattle_type(a.split(":")[1].strip())]
         answer = c_name(kind)
@@ -125,21 +138,28 @@ def rattle_entries(header):
         yield name, answer, arguments
 
 
+def faults_of_promises():
+    told = promises(rattle("host"), "pub ")
+    for name, head in promises(rattle("host_c"), 'pub extern "C" ').items():
+        if told.get(name) != head:
+            yield f"{name} of crates/host_c does not promise what crates/host's does"
+
+
 def faults_of_entries(header, rust):
     of_crate = list(rattle_entries(header))
     for name, answer, arguments in of_crate:
         if name not in header.entries:
-            yield f"{name} of crates/host is missing"
+            yield f"{name} of crates/host_c is missing"
             continue
         declared, words = header.entries[name]
         kinds = [kind for kind, _ in words]
         if name == LISTS_OF_ENTRIES:
             kinds = [kind.replace("DrasumiraCoherenceMatch", "uint32_t") for kind in kinds]
         if (declared, kinds) != (answer, arguments):
-            yield f"{name} is ({', '.join(kinds)}) -> {declared}, and in crates/host ({', '.join(arguments)}) -> {answer}"
+            yield f"{name} is ({', '.join(kinds)}) -> {declared}, and in crates/host_c ({', '.join(arguments)}) -> {answer}"
     names = {name for name, _, _ in of_crate}
-    yield from (f"{name} is no entry of crates/host" for name in header.entries if name not in names)
-    yield from (f"{name} of crates/host is not declared in rust/src/host*" for name in sorted(names) if name not in rust.entries)
+    yield from (f"{name} is no entry of crates/host_c" for name in header.entries if name not in names)
+    yield from (f"{name} of crates/host_c is not declared in rust/src/host*" for name in sorted(names) if name not in rust.entries)
     for name, (answer, arguments) in rust.entries.items():
         declared = header.entries.get(name)
         if declared and (declared[0], [kind for kind, _ in declared[1]]) != (answer, arguments):
@@ -226,7 +246,7 @@ def faults_of_numbers(header, rust):
 
 def main():
     header, rust = Header(), Rust()
-    faults = [*faults_of_entries(header, rust), *faults_of_the_document(header), *faults_of_structs(header, rust), *faults_of_numbers(header, rust)]
+    faults = [*faults_of_promises(), *faults_of_entries(header, rust), *faults_of_the_document(header), *faults_of_structs(header, rust), *faults_of_numbers(header, rust)]
     if faults:
         print("\n".join(f"header.py: {HEADER}: {fault}" for fault in faults), file=sys.stderr)
         sys.exit(1)

@@ -3,7 +3,7 @@
 
     in_turn.py    until the process that started it has ended
 
-rt starts as many checks as RT_JOBS says and begins no new ones before all of them have ended. So many must be under way that a long one leaves no processor idle; but checks
+rt starts as many checks as there are processors, and some share their searches among processes of their own; ./test proves the archive's crate beside them. Checks
 that share a processor drive one another's memory out of its caches (docs/BENCHMARKS.md has what that costs). So the oldest run as they are, and the others where a processor
 has nothing else to do. Nothing is stopped, and no answer hangs on it: where it has ended, or this user may not, the checks share the processors."""
 import os
@@ -13,17 +13,33 @@ from pathlib import Path
 HERE = Path(__file__).resolve().parent.parent
 PROVER = "rattle"
 SECONDS = 0.3  # between two looks
-BEGAN = 19  # the field of /proc/N/stat behind the name
+BEGAN, PARENT = 19, 1  # the fields of /proc/N/stat behind the name
+ABOVE = 6  # processes between a check, which may work in a crate's folder or in a copy of it, and one that works at the top of the repository
+
+
+def read(process):
+    """The name of a process, and what /proc/N/stat has behind it."""
+    name, _, fields = Path(f"/proc/{process}/stat").read_text(encoding="utf-8").partition(" (")[2].rpartition(") ")
+    return name, [int(field) if field.lstrip("-").isdigit() else field for field in fields.split()]
+
+
+def is_ours(process):
+    """Whether it, or one of those that started it, works at the top of this repository."""
+    for _ in range(ABOVE):
+        if process < 2:
+            return False
+        if os.readlink(f"/proc/{process}/cwd") == str(HERE):
+            return True
+        process = read(process)[1][PARENT]
+    return False
 
 
 def began(process):
     """When a process of the prover that works on this repository began, else None."""
     try:
-        if os.readlink(f"/proc/{process}/cwd") != str(HERE):
-            return None
-        name, _, fields = Path(f"/proc/{process}/stat").read_text(encoding="utf-8").partition(" (")[2].rpartition(") ")
-        return int(fields.split()[BEGAN]) if name == PROVER else None
-    except OSError:  # it has ended
+        name, fields = read(process)
+        return fields[BEGAN] if name == PROVER and is_ours(int(process)) else None
+    except OSError:  # it has ended, or is another user's
         return None
 
 

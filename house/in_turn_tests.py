@@ -2,6 +2,7 @@
 """Whether house/in_turn.py lets the oldest run and the others wait, whoever they are, and only those of its own repository. `rattle` is a copy of `sleep` here."""
 import os
 import shutil
+import signal
 import subprocess
 import sys
 import tempfile
@@ -21,6 +22,22 @@ def started(command, folder):
     return process
 
 
+class Below:
+    """A process in another folder that one in this folder has started, as rt starts checks of edits."""
+
+    def __init__(self, command, folder, other):
+        words = ["sh", "-c", '(cd "$2"; exec "$1" 60 >/dev/null) & echo $!; wait', "sh", command, other]
+        self.above = subprocess.Popen(words, cwd=folder, stdout=subprocess.PIPE, text=True)
+        self.pid = int(self.above.stdout.readline())
+        time.sleep(0.1)
+
+    def kill(self):
+        os.kill(self.pid, signal.SIGKILL)
+
+    def wait(self):
+        self.above.wait()
+
+
 def main():
     if not in_turn.may():
         print("in_turn: this user may not take a process back from waiting: checks share the processors")
@@ -29,7 +46,7 @@ def main():
     with tempfile.TemporaryDirectory() as room, tempfile.TemporaryDirectory() as elsewhere:
         in_turn.HERE = Path(room).resolve()
         prover = shutil.copy(shutil.which("sleep"), Path(room) / in_turn.PROVER)
-        checks = [started(prover, room) for _ in range(at_a_time + 2)]
+        checks = [started(prover, room) for _ in range(at_a_time + 1)] + [Below(prover, room, elsewhere)]
         others = [started(prover, elsewhere), started("sleep", room)]
         try:
             in_turn.look(waiting)

@@ -1,46 +1,49 @@
 #!/usr/bin/env python3
-"""Whether each wrong program was refused where it says.
+"""Whether each wrong program is refused where it says.
 
-    refusals.py [ROOT]    reads ROOT/target/must-fail/*/*/.log, which rt must-fail or rt ci left, against the edits
+    refusals.py [TREE]    tries the edits of this repository (house/tries.py), over the libraries that `rt ci` has built in TREE, a copy of it, or here
 
-Any error counts as refused for rt. Here an edit's log must have, for each wrong program, an error of its own at the need that it names, none that
-only says that the program has another shape (a need that is gone, a name that is not there), and, in a round, no error of its own in a function
-that no program of the round changes. An error that follows from another (`was not admitted`) is not an error of its own."""
+Any error counts as refused for rt, and it tells the first. Here an edit's log must have, for each wrong program, an error of its own at the goal that it names, none that
+only says that the program has another shape (a goal that is gone, a name that is not there), and, in a round, no error of its own in a function
+that no program of the round changes. An error that follows from another (of what depends on what was rejected) is not an error of its own."""
 import re
 import sys
 from pathlib import Path
 
+from tries import LOGIC, Tries
 from wrong import ALONE, Fault, all_edits
+
+ROOT = Path(__file__).resolve().parent.parent
 
 ERROR = re.compile(r"(?m)^(\S+?):(\d+):(\d+): error: (.*(?:\n[ \t]+.*)*)$")  # a message may go on in indented lines
 NAMED = re.compile(r"`([^`]+)`: ")
-ALONE_TRIED = re.compile(r"(?m)^fn [^:\s]+::(\S+): no proof: .*?; `search` does not close (.*)$")
-FOLLOWS = "was not admitted (it has holes or undetermined implicits, or was rejected)"
-SHAPE = ("has no `Tie`", "has no `Need-", "expected type `tie.Need", "is not in scope", "has no field", "this λ has", "unknown name", "not found in module")
+# goals that have no answer, which the prover closes by itself where the function is right
+NOT_CLOSED = re.compile(r"(?m)^fn \S+: no proof: expected answers in \./proofs/(\S+)/Answers\.antt; `search` did not prove (.*)$")
+FOLLOWS = ("which was rejected, was not checked", "which was rejected, were not checked", "was not admitted")
+SHAPE = ("has no `", "expected type `goal.", "is not in scope", "has no field", "is no name", "this λ has", "unknown name", "not found in module")
 
 
-def place_of(path, label):
-    """proofs/X/Proof.antt is X; proofs/X.antt is X; another file of the crate goes by its own path."""
-    inside = path.split(f"/{label}/", 1)[-1]
-    inside = re.sub(r"(/Proof)?\.antt$", "", inside)
-    return inside[len("proofs/"):] if inside.startswith("proofs/") else inside
+def place_of(path):
+    """proofs/X/Answers.antt and its fellows are X; proofs/X.antt is X; another file of the crate goes by its own path."""
+    inside = re.sub(r"(/(Answers|Invariants|Proof))?\.antt$", "", path.removeprefix("./"))
+    return inside.removeprefix("proofs/")
 
 
-def errors(log, label):
+def errors(log):
     """The errors of a log that do not only follow from another: (place, declaration, message)."""
     for path, _, _, message in ERROR.findall(log):
         named = NAMED.match(message)
-        if FOLLOWS not in message:
-            yield place_of(path, label), named.group(1) if named else "", message
-    for function, needs in ALONE_TRIED.findall(log):  # a function that has no proof file, since the prover closes its needs by itself
-        for need in re.findall(r"`([^`]+)`", needs):
-            yield function.replace("::", "/"), need, "`search` does not close it"
+        if not any(sign in message for sign in FOLLOWS):
+            yield place_of(path), named.group(1) if named else "", message
+    for place, goals in NOT_CLOSED.findall(log):
+        for goal in re.findall(r"`([^`]+)`", goals):
+            yield place, goal, "`search` did not prove it"
 
 
 def faults(edit, log):
     """What is wrong with the refusals of one edit."""
-    own = list(errors(log, edit.label))
-    if not re.search(r"(?m)^logic=not-proved", log):
+    own = list(errors(log))
+    if not re.search(rf"(?m)^{LOGIC}", log):
         yield "the prover did not refuse it"
     for place, need, message in own:
         if any(sign in " ".join(message.split()) for sign in SHAPE):
@@ -57,26 +60,21 @@ def faults(edit, log):
             yield f"{place} is refused by itself, and no program here changes it"
 
 
-def read(root):
-    """All edits of the tree, and what is wrong with them."""
-    edits, wrong = all_edits(root), []
-    for edit in edits:
-        path = root / "target" / "must-fail" / edit.crate / edit.label / ".log"
-        if not path.is_file():
-            wrong.append(f"{edit.crate}/{edit.label}: it was not tried: there is no log")
-            continue
-        wrong += [f"{edit.crate}/{edit.label}: {fault}" for fault in faults(edit, path.read_text(encoding="utf-8"))]
-    return edits, wrong
+def read(root, tree, kept):
+    """All edits of a repository, and what is wrong with them."""
+    edits = all_edits(root)
+    tries = Tries(edits, tree, kept)
+    return edits, [f"{edit.crate}/{edit.label}: {fault}" for edit, log in tries.logs() for fault in faults(edit, log)], tries.made
 
 
-def main(root):
-    edits, wrong = read(root)
+def main(tree):
+    edits, wrong, made = read(ROOT, tree, ROOT / "build/refusals")
     for line in wrong:
         print(line)
     if wrong:
         raise Fault(f"{len(wrong)} refusals are not what the edits say")
     rounds = sum(edit.kind == "round" for edit in edits)
-    print(f"refusals: {sum(len(edit.programs) for edit in edits)} wrong programs in {len(edits)} checks ({rounds} rounds), each refused at its need")
+    print(f"refusals: {sum(len(edit.programs) for edit in edits)} wrong programs in {len(edits)} checks ({rounds} rounds; {made} checks made now), each refused at its goal")
 
 
 if __name__ == "__main__":
@@ -84,7 +82,7 @@ if __name__ == "__main__":
         print(__doc__, file=sys.stderr)
         sys.exit(2)
     try:
-        main(Path(sys.argv[1]) if len(sys.argv) == 2 else Path(__file__).resolve().parent.parent)
+        main(Path(sys.argv[1]) if len(sys.argv) == 2 else ROOT)
     except Fault as fault:
         print(f"refusals.py: {fault}", file=sys.stderr)
         sys.exit(1)

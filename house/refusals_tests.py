@@ -1,7 +1,7 @@
 #!/usr/bin/env python3
-"""Whether house/refusals.py notices what it is there for. A small repository of three crates is made and its wrong programs are tried by rt:
-the first crate's round is as it should be; the second's has a right program in it; in the third's a program is refused elsewhere than it says. And
-the logs that rt left of this repository are read once more with faults put into them."""
+"""Whether house/refusals.py notices what it is there for. A small repository of three crates is made and its wrong programs are tried: rt refuses every edit. The first crate's round is as it
+should be; the second's has a right program in it; in the third's a program is refused elsewhere than it says. And
+the logs of this repository's edits (build/refusals) are read once more with faults put into them."""
 import subprocess
 import sys
 import tempfile
@@ -12,16 +12,18 @@ from wrong import all_edits
 
 ROOT = Path(__file__).resolve().parent.parent
 
-SOURCE = """ghost use mathlib.Core.Path.{_≡_};
+SOURCE = """#![tactic(auto)]
+
+ghost use Rattle.std.specs.Prelude.{◌≡◌};
 
 pub fn seven() -> usize
-    ensures { λ r. ⌜ r ≡ 7 ⌝ }
+    ensures { result ≡ 7 }
 {
     7
 }
 
 pub fn lesser(x: usize) -> usize
-    ensures { λ r. ⌜ r ≡ 9 ⌝ }
+    ensures { result ≡ 9 }
 {
     if x < 9 { 9 } else { 9 }
 }
@@ -29,13 +31,13 @@ pub fn lesser(x: usize) -> usize
 SEVEN = "wrong: seven_is_eight: Seven is eight.\nrefused: seven at returns\nfile: src/lib.rt\nold:     7\nnew:     8\n"
 LESSER = "wrong: {0}: {0}.\nrefused: lesser at {1}\nfile: src/lib.rt\nold: 9 {{ 9 }} else {{ 9 }}\nnew: {2}\n"
 ROUNDS = {
-    "good": LESSER.format("ten_where_less", "returns", "9 { 10 } else { 9 }"),
-    "right": LESSER.format("another_test", "returns", "8 { 9 } else { 9 }"),
-    "elsewhere": LESSER.format("ten_where_not_less", "returns", "9 { 9 } else { 10 }"),
+    "good": LESSER.format("ten_where_less", "returns-then-x-lt9", "9 { 10 } else { 9 }"),
+    "right": LESSER.format("another_test", "returns-then-x-lt9", "8 { 9 } else { 9 }"),
+    "elsewhere": LESSER.format("ten_where_not_less", "returns-then-x-lt9", "9 { 9 } else { 10 }"),
 }
 FOUND = [
-    "right/round_1: another_test is not refused at returns of lesser",
-    "elsewhere/round_1: ten_where_not_less is not refused at returns of lesser, but at returns-2",
+    "right/round_1: another_test is not refused at returns-then-x-lt9 of lesser",
+    "elsewhere/round_1: ten_where_not_less is not refused at returns-then-x-lt9 of lesser, but at returns-else-x-lt9",
 ]
 
 
@@ -50,23 +52,23 @@ def tried_by_the_prover(room):
     ran = subprocess.run(["rt", "must-fail"], cwd=room, capture_output=True, text=True)
     if ran.returncode != 0:
         raise SystemExit(f"refusals_tests.py: rt must-fail: {ran.stdout[-300:]}")
-    return refusals.read(room)[1]
+    return refusals.read(room, room, room / "logs")[1]
 
 
 def without(place):
     """The log as it would be if that function were proved."""
     return lambda log, edit: "\n".join(
         line for line in log.split("\n")
-        if not ((found := refusals.ERROR.match(line)) and refusals.place_of(found.group(1), edit.label) == place) and not line.startswith(f"fn {edit.crate}::{place.replace('/', '::')}: no proof"))
+        if not ((found := refusals.ERROR.match(line)) and refusals.place_of(found.group(1)) == place) and f"expected answers in ./proofs/{place}/" not in line)
 
 
 def faults_in_a_log(edit, log):
     """(what, the log with that fault in it)"""
     place, need = edit.programs[0].refused[0]
-    home = f"/{edit.label}/proofs"
+    home = "./proofs"
     yield "a right program", without(place)(log, edit)
-    yield "an error in another function", f"{home}/another/Proof.antt:1:1: error: `returns`: it does not follow\n{log}"
-    yield "an error for the shape", f"{home}/{place}/Proof.antt:1:1: error: `{need}`: the module has no `Need-loop-again`\n{log}"
+    yield "an error in another function", f"{home}/another/Answers.antt:1:1: error: `returns`: it does not follow\n{log}"
+    yield "an error for the shape", f"{home}/{place}/Answers.antt:1:1: error: `{need}`: module `Goals` has no `{need}`\n{log}"
     yield "a proof that passes", log.replace("logic=not-proved", "logic=proved")
 
 
@@ -78,7 +80,7 @@ def main():
         missed.append(f"of the small repository it says {found}")
     count = 0
     for edit in all_edits(ROOT):
-        path = ROOT / "target/must-fail" / edit.crate / edit.label / ".log"
+        path = ROOT / "build/refusals" / edit.crate / f"{edit.label}.log"
         if edit.kind != "round":
             continue
         log = path.read_text(encoding="utf-8")

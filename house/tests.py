@@ -1,6 +1,7 @@
 #!/usr/bin/env python3
 """Whether house/definitions.py, promises.py, habits.py and header.py notice what they are there for: each fault is put into a copy of the tree, must be found, and
 is taken back."""
+import re
 import shutil
 import subprocess
 import sys
@@ -34,15 +35,15 @@ def changed(path, old, new):
 
 def law_among_definitions(tree):
     path = tree / "crates/base/specs/Numbers.antt"
-    write(path, path.read_text(encoding="utf-8") + "\npub bump-of-true : bump true ≡ 1\nbump-of-true = refl\n")
+    write(path, path.read_text(encoding="utf-8") + "\npub bump_of_true : bump true ≡ 1\nbump_of_true = refl\n")
 
 
 def believed_word_inside(tree):
     inner = tree / "crates/md_meaning/specs/Inner/Strange.antt"
-    write(inner, "-- Assumes nothing.\nuse lib.Ieee.{Float, ofBits, binary32}\n\nabbrev pub DEFAULT : Float\nDEFAULT = ofBits binary32 0x3E19999A\n")
+    write(inner, "-- Assumes nothing.\nuse Rattle.std.specs.Prelude.{Float}\nuse Rattle.std.specs.Float.{binary32}\nuse Rattle.std.specs.Float.Ieee.{of_bits}\n\nabbrev pub DEFAULT : Float\nDEFAULT = of_bits binary32 0x3E19999A\n")
     page = tree / "crates/md_meaning/specs/MessRatio.antt"
-    changed(page, "DEFAULT-THRESHOLD = ofBits binary32 0x3E19999A", "DEFAULT-THRESHOLD = DEFAULT")
-    changed(page, "use Rattle·md_meaning·specs.specs.Scan", "use Rattle·md_meaning·specs.specs.Inner.Strange.{DEFAULT}\nuse Rattle·md_meaning·specs.specs.Scan")
+    changed(page, "DEFAULT_THRESHOLD = of_bits binary32 0x3E19999A", "DEFAULT_THRESHOLD = DEFAULT")
+    changed(page, "use Rattle.md_meaning.specs.Scan", "use Rattle.md_meaning.specs.Inner.Strange.{DEFAULT}\nuse Rattle.md_meaning.specs.Scan")
 
 
 def strange_line(tree):
@@ -69,7 +70,7 @@ def definition_without_sentence(tree):
 
 def program_not_listed(tree):
     edit = tree / "crates/base/must-fail/round_2.edit"
-    write(edit, "wrong: strange: A strange program.\nrefused: pick at returns\nfile: src/lib.rt\nold:     if b { x } else { y }\nnew:     if b { x } else { x }\n")
+    write(edit, "wrong: strange: A strange program.\nrefused: pick at returns-then-b\nfile: src/lib.rt\nold:     if b { x } else { y }\nnew:     if b { x } else { x }\n")
 
 
 def first_round(tree):
@@ -85,7 +86,7 @@ def need_unknown(tree):
 
 
 def refused_elsewhere(tree):
-    changed(first_round(tree), "refused: is_set at returns", "refused: holds at loop-again")
+    changed(first_round(tree), "refused: is_set at returns", "refused: holds at loop-k-preserved")
 
 
 def function_twice_in_a_round(tree):
@@ -103,12 +104,13 @@ def host_round(tree):
 
 
 def caller_not_named(tree):
-    changed(host_round(tree), "refused: drasumira_coherence_default at says-entry\n", "")
+    goal = re.search(r"refused: drasumira_coherence_default at \S+\n", host_round(tree).read_text(encoding="utf-8"))
+    changed(host_round(tree), goal[0], "")
 
 
 def caller_changed_too(tree):
     path = host_round(tree)
-    write(path, path.read_text(encoding="utf-8") + "\nwrong: quarter: A quarter.\nrefused: drasumira_coherence_default at walk\nfile: src/lib.rt\nold: cd::DEFAULT_THRESHOLD,\nnew: 0.25,\n")
+    write(path, path.read_text(encoding="utf-8") + "\nwrong: quarter: A quarter.\nrefused: drasumira_coherence_default at returns\nfile: src/lib.rt\nold: cd::DEFAULT_THRESHOLD,\nnew: 0.25,\n")
 
 
 def long_line(tree):
@@ -116,7 +118,7 @@ def long_line(tree):
 
 
 def path_without_name(tree):
-    changed(tree / "crates/base/proofs/is_set/Proof.antt", "returns c = ", "returns c = c" + " .before" * 8 + " .")
+    changed(tree / "crates/base/proofs/is_set/Answers.antt", "returns c = ", "returns c = c" + ".before" * 8 + ".")
 
 
 def name_of_another(tree):
@@ -127,8 +129,8 @@ HEADER = "include/drasumira.h"
 
 
 def entry_not_in_the_header(tree):
-    path = tree / "crates/host/src/lib.rt"
-    write(path, path.read_text(encoding="utf-8") + "\n#[no_mangle]\npub extern \"C\" fn drasumira_strange(text: &[u32]) -> HostRead\n{\n    strange(text)\n}\n")
+    path = tree / "crates/host_c/src/lib.rt"
+    write(path, path.read_text(encoding="utf-8") + "\n#[unsafe(no_mangle)]\npub extern \"C\" fn drasumira_strange(text: &[u32]) -> HostRead\n{\n    strange(text)\n}\n")
 
 
 def entry_gone(tree):
@@ -137,6 +139,10 @@ def entry_gone(tree):
 
 def entry_of_the_header_alone(tree):
     changed(tree / HEADER, "drasumira_ring_open(", "drasumira_ring_start(")
+
+
+def export_of_another_promise(tree):
+    changed(tree / "crates/host_c/src/lib.rt", "bytes.now (length out.old)", "bytes.now (length out.new)")
 
 
 def argument_not_const(tree):
@@ -218,6 +224,7 @@ FAULTS = [
     ("header.py", entry_not_in_the_header),
     ("header.py", entry_gone),
     ("header.py", entry_of_the_header_alone),
+    ("header.py", export_of_another_promise),
     ("header.py", argument_not_const),
     ("header.py", large_answer_by_value),
     ("header.py", declared_otherwise_in_rust),
@@ -244,7 +251,7 @@ def main():
     with tempfile.TemporaryDirectory() as room:
         tree = Path(room)
         for part in ("crates", "docs", "house", "include", "rust"):
-            shutil.copytree(ROOT / part, tree / part, symlinks=True, ignore=shutil.ignore_patterns("stdin", "stdout", "__pycache__", "target"))
+            shutil.copytree(ROOT / part, tree / part, symlinks=True, ignore=shutil.ignore_patterns("stdin", "stdout", "__pycache__", "target", "out"))
         asis = [(script, None) for script in ("definitions.py", "promises.py", "habits.py", "header.py")]
         for script, fault in asis + FAULTS + asis:  # as it is once more: every fault was taken back
             if fault:

@@ -12,13 +12,20 @@ them. Each program is a paragraph:
     old: ..
     new: ..
 
-FUNCTION is the folder of its proof below proofs/ (of functions that call each other the one folder +a+b; of a law, its file below proofs/ without .antt), NEED the declaration there at which it
-must be refused."""
+FUNCTION is the folder of its proof below proofs/ (of functions that call each other the one folder +NAME of their `#[cycle(NAME)]`; of a law, its file below proofs/ without .antt), NEED the goal of that
+function at which it must be refused, answered in its Answers.antt, set in its Invariants.antt or closed by the prover itself; of a law, the declaration there. `rt` reads `file:`, `old:` and `new:` alone, so
+where each program is refused is for house/refusals.py to see."""
 import re
 from pathlib import Path
 
 ALONE = ("definition", "contract", "constant")
-SIGNS = re.compile(r"(?m)^\s*(?:#\[no_mangle\]\s*)?(?:pub )?(?:extern \"C\" )?fn (\w+)|^\s*(?:#\[no_mangle\]\s*)?(?:pub )?(?:const|static) (\w+)|^impl (\w+)|^(\})")
+SIGNS = re.compile(r"(?m)^\s*(?:#\[unsafe\(no_mangle\)\]\s*)?(?:pub )?(?:extern \"C\" )?fn (\w+)|^\s*(?:pub )?(?:const|static) (\w+)|^impl (\w+)|^(\})")
+# The files of a function's proof, and what Rattle calls a goal, which need not stand in one: most are closed without an answer.
+PROOF_FILES = ("Answers", "Invariants", "Proof")
+GOAL = re.compile(
+    r"returns(-(then|else|after|in)[-_].+)?|loop-\w+-(init|preserved|smaller)(-.+)?|\w+(-\w+)*-requires(-\d+|-(then|else|in)-.+)?"
+    r"|(overflow|int_to|float_to|float_from|enum|shape)_\w+-.+|(offset_|slice_)?bounds-.+"
+)
 
 
 class Fault(Exception):
@@ -116,7 +123,7 @@ def folder(file, function):
 def in_contract(text, at):
     """Whether a place in a source file stands in a function's `requires` or `ensures`."""
     line = text[text.rfind("\n", 0, at) + 1:]
-    return re.match(r"\s*(?:requires|ensures) \{", line) is not None
+    return re.match(r"\s*(?:requires|ensures)(?: \w+)? \{", line) is not None
 
 
 def callers(crate, function):
@@ -134,18 +141,19 @@ def callers(crate, function):
 def cycle_of(crate, place):
     """The folder of a function's proof: that of the cycle of calls that it is in, if it is in one."""
     parent, _, name = place.rpartition("/")
-    for path in sorted((crate / "proofs" / parent).glob("+*")):
-        if name in path.name.split("+"):
-            return f"{parent}/{path.name}" if parent else path.name
+    for path in sorted(crate.glob("src/**/*.rt")):
+        found = re.search(rf"#\[cycle\((\w+)\)\]\s*(?:pub )?fn {name}\(", path.read_text(encoding="utf-8"))
+        if found and folder(str(path.relative_to(crate)), name) == place:
+            return f"{parent}/+{found[1]}" if parent else f"+{found[1]}"
     return place
 
 
-def proof_file(crate, place):
-    """The file in which a refusal at this place stands."""
-    for path in (crate / "proofs" / place / "Proof.antt", crate / "proofs" / f"{place}.antt", crate / f"{place}.antt"):
-        if path.is_file():
-            return path
-    return None
+def is_goal(crate, place, need):
+    """Whether a refusal at this place can name that need: a goal of a function, or a declaration of a law's file."""
+    law = [path for path in (crate / "proofs" / f"{place}.antt", crate / f"{place}.antt") if path.is_file()]
+    told = law or [path for path in (crate / "proofs" / place / f"{name}.antt" for name in PROOF_FILES) if path.is_file()]
+    declared = rf"(?m)^\s*(?:(?:abbrev|unfoldable|pub) )*{re.escape(need)} :"
+    return any(re.search(declared, path.read_text(encoding="utf-8")) for path in told) or not law and GOAL.fullmatch(need) is not None
 
 
 def check(edit):
@@ -163,10 +171,7 @@ def check(edit):
         if not program.refused or not program.changes:
             raise edit.says(f"{program.name}: it says no `refused:` or changes nothing")
         for place, need in program.refused:
-            path = proof_file(crate, place)
-            if path is None and edit.kind == "round":
-                continue  # the prover closes that function's needs by itself
-            if path is None or not re.search(rf"(?m)^\s*(?:(?:abbrev|unfoldable|pub) )*{re.escape(need)} :", path.read_text(encoding="utf-8")):
+            if not is_goal(crate, place, need):
                 raise edit.says(f"{program.name}: there is no {need} in the proof of {place}")
         places = set()
         for file, old, new in program.changes:

@@ -1,8 +1,7 @@
 // Finds the proved library and links it. It comes from the first of these that is there:
 // 1. the directory that DRASUMIRA_LIB_DIR names, with libdrasumira.a and libdrasumira.txt of a package in it;
 // 2. the repository around this package: oracle/link/library has `rt` prove what is not yet proved. A first build takes the time of the proof, a
-//    later one starts at once. For x86-64 Linux that is the archive of `rt staticlib host`; for another 64-bit Linux, on a machine of that kind,
-//    the same LLVM module compiled for it, which is not what ships, and a warning says so;
+//    later one starts at once. That is the archive of the static library host_c, for x86-64 Linux, for which alone the kit compiles;
 // 3. lib/ of this package, where ./package has put the archive.
 // Only 2 runs `rt`. Without any of them, for another machine, or where a table or the archive is damaged, the build ends with what to do.
 mod sum;
@@ -139,23 +138,25 @@ fn packaged(dir: &Path) -> (Vec<u8>, String) {
 
 // The library of the repository, proved and built.
 fn proved(root: &Path) -> (Vec<u8>, String) {
-    for file in ["crates", "crates.txt", "oracle/link/library", "oracle/link/native-staticlib"] {
+    for file in ["crates.txt", "oracle/link/library"] {
         rerun_if_changed(&root.join(file));
     }
-    for name in ["RATTLE_HOME", "PATH"] {
-        println!("cargo::rerun-if-env-changed={name}");
+    // and not what rt keeps beside them in out/
+    for folder in std::fs::read_dir(root.join("crates")).into_iter().flatten().flatten() {
+        for part in ["src", "specs", "proofs"] {
+            let path = folder.path().join(part);
+            if path.is_dir() {
+                rerun_if_changed(&path);
+            }
+        }
     }
-    let (arch, host, target) = (set("CARGO_CFG_TARGET_ARCH"), set("HOST"), set("TARGET"));
-    let ships = arch == SHIPS_FOR;
-    if !ships && !host.starts_with(&format!("{arch}-")) {
-        stop(&format!("there is no library for {target} on {host}: what is not x86-64 is compiled for the machine that builds it"));
+    println!("cargo::rerun-if-env-changed=PATH");
+    if set("CARGO_CFG_TARGET_ARCH") != SHIPS_FOR {
+        stop(&format!("there is no library for {}: the kit compiles for x86-64", set("TARGET")));
     }
     let proof = run(Command::new("rt").arg("version"));
     run(&mut Command::new(root.join("oracle/link/library")));
-    if !ships {
-        println!("cargo::warning=this machine is not x86-64: a native copy of the proved module is linked, and not the archive that ships");
-    }
-    let made = root.join("build/library").join(if ships { "libhost.a" } else { "native.a" });
+    let made = root.join("build/library/libhost.a");
     let archive = read(&made).unwrap_or_else(|e| stop(&format!("{}, which oracle/link/library makes: {e}", made.display())));
     (archive, String::from_utf8_lossy(&proof).trim_end().to_string())
 }
@@ -174,7 +175,7 @@ fn main() {
         (None, Some(root)) => proved(root),
         (None, None) => packaged(&here.join("lib")),
     };
-    // copied: `rt ci` removes target/
+    // copied, under the name that the crate links it by
     write(&out.join("libdrasumira_host.a"), archive);
     // the kit and the logic by which the library is proved, for `drasumira --version`
     write(&out.join("proof.txt"), proof);

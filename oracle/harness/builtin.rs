@@ -30,15 +30,15 @@ fn packed(e: &Class) -> String {
 fn columns(entries: &[Class]) -> Vec<Column> {
     let column = |list, says, words| Column { list, says, words };
     vec![
-        column("flagWords", "flag words", entries.iter().map(|e| hex(e.flags)).collect()),
-        column("rangeNumbers", "numbers of the ranges", entries.iter().map(|e| e.range.to_string()).collect()),
+        column("flag_words", "flag words", entries.iter().map(|e| hex(e.flags)).collect()),
+        column("range_numbers", "numbers of the ranges", entries.iter().map(|e| e.range.to_string()).collect()),
         column("bases", "letters without accent; 0: the character itself", entries.iter().map(|e| hex(e.base)).collect()),
         column("lowers", "lower-case letters; 0: the character itself", entries.iter().map(|e| hex(e.lower)).collect()),
     ]
 }
 
 fn packed_column(entries: &[Class]) -> Column {
-    Column { list: "packedWords", says: "flag word, range, base and lower-case letter in one word (Packed)", words: entries.iter().map(packed).collect() }
+    Column { list: "packed_words", says: "flag word, range, base and lower-case letter in one word (Packed)", words: entries.iter().map(packed).collect() }
 }
 
 // One constant to a line with its code point, which is also how the kit's formatter lays an array out.
@@ -59,8 +59,7 @@ fn antt(says: &str, columns: &[Column]) -> String {
         "-- {says}\n\
          -- Written by the oracle (oracle/harness/builtin.rs) from the crate's own answers. Do not edit it: see oracle/README.md.\n\
          -- Assumes nothing.\n\
-         use Prim.Native.Nat.{{ℕ}}\n\
-         use mathlib.Core.List.{{List, [], _∷_}}\n",
+         use Rattle.std.specs.Prelude.{{ℕ, List, [], ◌∷◌}}\n",
     );
     for c in columns {
         write!(out, "\n-- {}\nunfoldable pub {} : List ℕ\n{} =\n", c.says, c.list, c.list).unwrap();
