@@ -8,7 +8,23 @@ use native.Mathlib.Nat.{add-zero, zero-add, add_assoc, suc-add}
 use native.Mathlib.Numerals.{add-one}
 use native.Mathlib.Omega.{arith}
 use lib.ListN.{length, get_or, set, take, drop, length-append, length-drop, length-set, get_or-append, take-append-drop}
-use lib.Seq.{set-append_left, paste, paste-suc, length-take-le, take-append-le, take-append_seam, take_at, take-take, take-length, drop_at, drop-drop, get_or-take, get_or-drop, get_or-append-add, ext_get_or}
+use lib.Seq.{
+  set-append_left,
+  paste,
+  paste-suc,
+  length-take-le,
+  take-append-le,
+  take-append_seam,
+  take_at,
+  take-take,
+  take-length,
+  drop_at,
+  drop-drop,
+  get_or-take,
+  get_or-drop,
+  get_or-append-add,
+  ext_get_or,
+}
 use Rattle.base.specs.Put.{put}
 use Rattle.base.proofs.Laws.Tests.{split}
 

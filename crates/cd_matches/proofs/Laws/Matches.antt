@@ -118,7 +118,8 @@ module _ (t included : List ℕ) (accented : Bool) (order : List ℕ) where
           omega (arith, below, good_most t good),
           (
             below,
-            rw (← score_is t order records i l (score_at t order (get_or records i 0)) refl) (similarity_good order (letters_of t (get_or records i 0)) fits (letters_most t good (get_or records i 0) below)),
+            rw (← score_is t order records i l (score_at t order (get_or records i 0)) refl)
+                (similarity_good order (letters_of t (get_or records i 0)) fits (letters_most t good (get_or records i 0) below)),
             match_first i l,
           ),
         )

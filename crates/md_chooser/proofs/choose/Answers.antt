@@ -1,7 +1,18 @@
 -- Each verdict hands back the part that the definition gives for it, and it lies where the text lies that the definition names. Assumes nothing.
 use mathlib.Core.Path.{sym, ◌∙◌}
 use lib.Seq.{length-take-le}
-use Rattle.md_chooser_meaning.proofs.Laws.Choose.{first_length, second_length, chosen_first, chosen_second, chosen_refused, chosen_refused_second, from_first, from_second, from_refused, from_refused_second}
+use Rattle.md_chooser_meaning.proofs.Laws.Choose.{
+  first_length,
+  second_length,
+  chosen_first,
+  chosen_second,
+  chosen_refused,
+  chosen_refused_second,
+  from_first,
+  from_second,
+  from_refused,
+  from_refused_second,
+}
 use Rattle.md_chooser.proofs.choose.Goals as goal
 
 pub slice_bounds-result-end : goal.slice_bounds-result-end

@@ -1,7 +1,38 @@
 -- Characters of one kind in a row, fed at once, come to the state that the definition reaches one by one (`cased_run_lem`, `uncased_run_lem`), by induction over their
 -- number; and each step of the scan that feeds a run or a single character has advanced (`Advanced`).
 -- Assumes nothing.
-use Rattle.std.proofs.Common.{◌≡◌, ℕ, zero, suc, ◌+◌, ◌-◌, ◌<◌, ◌≤◌, Bool, true, false, not, ◌&&◌, eqb, ltb, leb, List, length, get_or, sym, refl, ap, ◌∙◌, add-one, arith, lt-ltb, ne_eqb, eqb-true, leb-false, leb-true}
+use Rattle.std.proofs.Common.{
+  ◌≡◌,
+  ℕ,
+  zero,
+  suc,
+  ◌+◌,
+  ◌-◌,
+  ◌<◌,
+  ◌≤◌,
+  Bool,
+  true,
+  false,
+  not,
+  ◌&&◌,
+  eqb,
+  ltb,
+  leb,
+  List,
+  length,
+  get_or,
+  sym,
+  refl,
+  ap,
+  ◌∙◌,
+  add-one,
+  arith,
+  lt-ltb,
+  ne_eqb,
+  eqb-true,
+  leb-false,
+  leb-true,
+}
 use lib.ListN.{get_or-eq_default}
 use borrow.Author.Tests.{not-true}
 use Rattle.base.specs.Limits.{BUILTIN_END, NEWLINE, LAST_RANGE, LONGEST_TEXT}
