@@ -32,7 +32,7 @@ use Rattle.md_meaning.specs.declared.Scored.{Scored}
 use Rattle.md_meaning.specs.declared.Scored.TheVariants.{Refused as NotScored}
 use Rattle.md_meaning.specs.MessRatio.{DEFAULT_THRESHOLD, too_long, causes, mess_ratio}
 use Rattle.md_meaning.specs.Scan.{accepted_score, no_class, unless}
-use Rattle.md_meaning.proofs.Laws.MessRatio.{default_finite}
+use Rattle.md_meaning.proofs.Laws.MessRatio.{default_finite, behind_same}
 use Rattle.md_meaning.proofs.Laws.Scan.{unless_refused}
 use Rattle.md_utf8_meaning.specs.ScoreUtf8.{causes_utf8, mess_ratio_utf8}
 use Rattle.md_lines_meaning.specs.Lines.{lines_of}
@@ -47,7 +47,7 @@ use Rattle.class_compact_meaning.proofs.Laws.Back.{allowed_sized}
 use Rattle.class_compact_meaning.proofs.Laws.Calls.{filled_refused}
 use Rattle.class_compact_meaning.proofs.Laws.Packing.{packed_back, packed_good}
 use Rattle.class_compact_meaning.proofs.Laws.Sound.{by_cause, beyond_then, wrong_refused, table_allowed, good_parts}
-use Rattle.md_compact.specs.Scoring.{mess_ratio_compact, mess_ratio_compact_default, mess_ratio_utf8_compact, mess_ratio_utf8_compact_default}
+use Rattle.md_compact.specs.Scoring.{of_compact, mess_ratio_compact, mess_ratio_compact_default, mess_ratio_utf8_compact, mess_ratio_utf8_compact_default}
 use Rattle.md_compact.specs.Lines.{lines_causes, lines_answer, lines_after}
 
 -- ---- causes in front
@@ -180,14 +180,25 @@ module _ (c l pairs : List ℕ) (threshold : Float) where
           rw (t, lines_causes_lem s e) (refl, refl)
 
 -- a threshold that is finite gives no cause
+finite_passed : (causes : List Cause) → first_of (not_finite DEFAULT_THRESHOLD ∷ causes) ≡ first_of causes
+unfolding first_of not_finite given
+finite_passed causes = rw default_finite
+
 module _ (c l pairs : List ℕ) where
+  scored_unless : List ℕ → Cause → Scored
+  scored_unless text cause = unless cause (accepted_score (unpacked c l) pairs text (Threshold DEFAULT_THRESHOLD))
+
   pub default_same_compact : (text : List ℕ) → mess_ratio_compact c l pairs text DEFAULT_THRESHOLD ≡ mess_ratio_compact_default c l pairs text
-  unfolding mess_ratio_compact mess_ratio_compact_default first_of not_finite given
-  default_same_compact text = rw default_finite
+  unfolding mess_ratio_compact mess_ratio_compact_default scored_unless
+  default_same_compact text = ap (scored_unless text) (behind_same (too_long text ∷ []) _ _ (finite_passed (of_compact c l pairs text)))
 
   pub default_same_utf8_compact : (bytes : List ℕ) → mess_ratio_utf8_compact c l pairs bytes DEFAULT_THRESHOLD ≡ mess_ratio_utf8_compact_default c l pairs bytes
-  unfolding mess_ratio_utf8_compact mess_ratio_utf8_compact_default first_of not_finite given
-  default_same_utf8_compact bytes = rw default_finite
+  unfolding mess_ratio_utf8_compact mess_ratio_utf8_compact_default scored_unless
+  default_same_utf8_compact bytes =
+      let text = text_of bytes in
+      ap (scored_unless text)
+      (behind_same (reading.many_bytes bytes ∷ reading.ill_formed bytes ∷ reading.many_points bytes ∷ too_long text ∷ []) _ _
+      (finite_passed (of_compact c l pairs text)))
 
 -- ---- "with equal answers"
 module _ (c l pairs : List ℕ) (threshold : Float) (ok : bad_compact c l ≡ Allowed) where
