@@ -139,7 +139,7 @@ def rattle_entries(header):
 
 
 def faults_of_promises():
-    told = promises(rattle("host"), "pub ")
+    told = promises(rattle("host"), 'pub (?:extern "C" )?')
     for name, head in promises(rattle("host_c"), 'pub extern "C" ').items():
         if told.get(name) != head:
             yield f"{name} of crates/host_c does not promise what crates/host's does"

@@ -14,7 +14,6 @@ HERE = Path(__file__).resolve().parent.parent
 PROVER = "rattle"
 SECONDS = 0.3  # between two looks
 BEGAN, PARENT = 19, 1  # the fields of /proc/N/stat behind the name
-ABOVE = 6  # processes between a check, which may work in a crate's folder or in a copy of it, and one that works at the top of the repository
 
 
 def read(process):
@@ -23,22 +22,17 @@ def read(process):
     return name, [int(field) if field.lstrip("-").isdigit() else field for field in fields.split()]
 
 
-def is_ours(process):
-    """Whether it, or one of those that started it, works at the top of this repository."""
-    for _ in range(ABOVE):
-        if process < 2:
-            return False
-        if os.readlink(f"/proc/{process}/cwd") == str(HERE):
-            return True
-        process = read(process)[1][PARENT]
-    return False
+def is_ours(process, fields):
+    """Whether it works in a crate's folder of this repository, or in a copy of one for a process that works at the top, as rt does."""
+    folder = lambda it: Path(os.readlink(f"/proc/{it}/cwd"))
+    return folder(process).is_relative_to(HERE / "crates") or folder(fields[PARENT]) == HERE
 
 
 def began(process):
     """When a process of the prover that works on this repository began, else None."""
     try:
         name, fields = read(process)
-        return fields[BEGAN] if name == PROVER and is_ours(int(process)) else None
+        return fields[BEGAN] if name == PROVER and is_ours(process, fields) else None
     except OSError:  # it has ended, or is another user's
         return None
 

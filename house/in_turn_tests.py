@@ -45,9 +45,11 @@ def main():
     at_a_time, wrong, waiting = len(os.sched_getaffinity(0)), [], set()
     with tempfile.TemporaryDirectory() as room, tempfile.TemporaryDirectory() as elsewhere:
         in_turn.HERE = Path(room).resolve()
+        os.chdir(elsewhere)  # else these are checks of the repository that this is started in, too
+        (Path(room) / "crates/one").mkdir(parents=True)
         prover = shutil.copy(shutil.which("sleep"), Path(room) / in_turn.PROVER)
-        checks = [started(prover, room) for _ in range(at_a_time + 1)] + [Below(prover, room, elsewhere)]
-        others = [started(prover, elsewhere), started("sleep", room)]
+        checks = [started(prover, f"{room}/crates/one") for _ in range(at_a_time + 1)] + [Below(prover, room, elsewhere)]
+        others = [started(prover, elsewhere), started("sleep", f"{room}/crates/one")]
         try:
             in_turn.look(waiting)
             if [told(c) for c in checks] != ["runs"] * at_a_time + ["waits"] * 2:
