@@ -5,5 +5,7 @@ use Rattle.host.proofs.drasumira_merge.Goals as goal
 
 pub returns : goal.returns
 returns c =
-    let told = (c.flat_merged.ensures ∙ ap host_merged c.merge.ensures.0, c.merge.ensures.1) in
-    record { value = told.0; out_after = told.1 }
+    record {
+      value = c.flat_merged.ensures ∙ ap host_merged c.merge.ensures.value;
+      out_after = c.merge.ensures.out_after;
+    }

@@ -5,5 +5,7 @@ use Rattle.host.proofs.drasumira_read_page.Goals as goal
 
 pub returns : goal.returns
 returns c =
-    let told = (c.flat_counted.ensures ∙ ap host_counted c.read_page.ensures.0, c.read_page.ensures.1) in
-    record { value = told.0; out_after = told.1 }
+    record {
+      value = c.flat_counted.ensures ∙ ap host_counted c.read_page.ensures.value;
+      out_after = c.read_page.ensures.out_after;
+    }

@@ -5,5 +5,7 @@ use Rattle.host.proofs.drasumira_reason.Goals as goal
 
 pub returns : goal.returns
 returns c =
-    let told = (c.flat_reasoned.ensures ∙ ap host_reason c.reason.ensures.0, c.reason.ensures.1) in
-    record { value = told.0; out_after = told.1 }
+    record {
+      value = c.flat_reasoned.ensures ∙ ap host_reason c.reason.ensures.value;
+      out_after = c.reason.ensures.out_after;
+    }

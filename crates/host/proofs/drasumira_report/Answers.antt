@@ -5,5 +5,7 @@ use Rattle.host.proofs.drasumira_report.Goals as goal
 
 pub returns : goal.returns
 returns c =
-    let told = (c.flat_counted.ensures ∙ ap host_counted c.report.ensures.0, c.report.ensures.1) in
-    record { value = told.0; out_after = told.1 }
+    record {
+      value = c.flat_counted.ensures ∙ ap host_counted c.report.ensures.value;
+      out_after = c.report.ensures.out_after;
+    }

@@ -5,5 +5,7 @@ use Rattle.host.proofs.drasumira_ring_flush.Goals as goal
 
 pub returns : goal.returns
 returns c =
-    let told = (c.flat_ringed.ensures ∙ ap host_ring c.flush_records.ensures.0, c.flush_records.ensures.1) in
-    record { value = told.0; out_after = told.1 }
+    record {
+      value = c.flat_ringed.ensures ∙ ap host_ring c.flush_records.ensures.value;
+      out_after = c.flush_records.ensures.out_after;
+    }

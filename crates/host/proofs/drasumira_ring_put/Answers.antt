@@ -5,5 +5,7 @@ use Rattle.host.proofs.drasumira_ring_put.Goals as goal
 
 pub returns : goal.returns
 returns c =
-    let told = (c.flat_ringed.ensures ∙ ap host_ring c.put_record.ensures.0, c.put_record.ensures.1) in
-    record { value = told.0; ring_after = told.1 }
+    record {
+      value = c.flat_ringed.ensures ∙ ap host_ring c.put_record.ensures.value;
+      ring_after = c.put_record.ensures.ring_after;
+    }

@@ -35,6 +35,6 @@ pub loop-t-preserved : goal.loop-t-preserved
 loop-t-preserved c =
     let turned = c.next_case-t.ensures in (
       record { size = turned.fits.same ∙ c.loop-t.invariant.0.size; sound = turned.sound; within = turned.fits.within },
-      length_front c.loop-t.input c.same_case-same.new.1.0 c.points_size-size.result c.same_case-same.auto.1.0 ∙ c.loop-t.invariant.1,
-      length_front c.loop-t.out c.same_case-same.new.1.1.0 c.bytes_room-room.result c.same_case-same.auto.1.1.0 ∙ c.loop-t.invariant.2,
+      length_front c.loop-t.input c.same_case-same.new.input c.points_size-size.result c.same_case-same.auto.input ∙ c.loop-t.invariant.1,
+      length_front c.loop-t.out c.same_case-same.new.out c.bytes_room-room.result c.same_case-same.auto.out ∙ c.loop-t.invariant.2,
     )

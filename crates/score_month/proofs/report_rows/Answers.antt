@@ -5,4 +5,4 @@ use Rattle.score_month.proofs.report_rows.Goals as goal
 
 pub returns-in-Count : goal.returns-in-Count
 returns-in-Count c =
-    count_fits _ _ _ (sym c.report.ensures.0 ∙ c.in-Count.is)
+    count_fits _ _ _ (sym c.report.ensures.value ∙ c.in-Count.is)

@@ -5,5 +5,8 @@ use Rattle.host.proofs.compact.drasumira_pack.Goals as goal
 
 pub returns : goal.returns
 returns c =
-    let told = (c.flat_packed.ensures ∙ ap host_packed c.pack.ensures.0, c.pack.ensures.1) in
-    record { value = told.0; records_after = told.1; letters_after = told.2 }
+    record {
+      value = c.flat_packed.ensures ∙ ap host_packed c.pack.ensures.value;
+      records_after = c.pack.ensures.records_after;
+      letters_after = c.pack.ensures.letters_after;
+    }

@@ -5,5 +5,7 @@ use Rattle.host.proofs.compact.drasumira_score_lines_compact.Goals as goal
 
 pub returns : goal.returns
 returns c =
-    let told = (c.flat_counted.ensures ∙ ap host_counted c.score_lines_compact.ensures.0, c.score_lines_compact.ensures.1) in
-    record { value = told.0; out_after = told.1 }
+    record {
+      value = c.flat_counted.ensures ∙ ap host_counted c.score_lines_compact.ensures.value;
+      out_after = c.score_lines_compact.ensures.out_after;
+    }

@@ -5,5 +5,7 @@ use Rattle.host.proofs.compact.drasumira_unpack.Goals as goal
 
 pub returns : goal.returns
 returns c =
-    let told = (c.flat_counted.ensures ∙ ap host_counted c.unpack.ensures.0, c.unpack.ensures.1) in
-    record { value = told.0; out_after = told.1 }
+    record {
+      value = c.flat_counted.ensures ∙ ap host_counted c.unpack.ensures.value;
+      out_after = c.unpack.ensures.out_after;
+    }

@@ -13,5 +13,4 @@ returns c = λ i. record {
   words = c.flat_shown-6.ensures i;
   stops = c.flat_shown-7.ensures i;
   archaic = c.flat_shown-8.ensures i;
-
 }
