@@ -38,7 +38,7 @@ REPLAYS = re.compile(r"same_\w+|sum_bits|replay_all")
 
 
 def faults_of_lines():
-    for path in sorted((ROOT / "crates").glob("**/*.antt")):
+    for path in sorted((ROOT / "crates").glob("*/[sp]*/**/*.antt")):
         where = path.relative_to(ROOT)
         if str(where) == GENERATED:
             continue
