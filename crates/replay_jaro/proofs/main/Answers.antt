@@ -1,11 +1,6 @@
 -- The loop of every replay (`Replaying`). What is lent beside the buffer keeps its length. Assumes nothing.
--- as in src/main.rt
-use Prim.Native.Nat.{ℕ}
 use Rattle.replay.proofs.Loops.Replaying.{replaying_case}
 use Rattle.replay_jaro.proofs.main.Goals as goal
-
-abbrev CASE_BYTES : ℕ
-CASE_BYTES = 33828
 
 pub slice_bounds-same_case-end : goal.slice_bounds-same_case-end
 slice_bounds-same_case-end c = replaying_case c.loop-t.invariant.0
