@@ -59,9 +59,9 @@ def type_text(house, crate, path):
     folder = house.root / "crates" / crate / "src"
     for source in sorted(folder.glob("**/*.rt")):
         text = source.read_text(encoding="utf-8")
-        found = re.search(rf"(?m)((?:^//.*\n)*)(^#\[repr\(C\)\]\n)?^pub (struct|enum) {name} \{{\n(?:.*\n)*?\}}", text)
+        found = re.search(rf"(?m)((?:^//.*\n)*)(?:^#\[(?:derive\([^)]*\)|repr\(C\))\]\n)*^pub (struct|enum) {name} \{{\n(?:.*\n)*?\}}", text)
         if found:
-            return source.relative_to(house.root), found.group(0)
+            return source.relative_to(house.root), re.sub(r"(?m)^#\[derive\([^)]*\)\]\n", "", found.group(0))
     raise Fault(f"crate {crate}: no struct or enum {name}")
 
 
