@@ -58,6 +58,7 @@ fn some_missing(c: Class, hints: &mut [usize; HINTS], table: &Table, classes: &[
 }
 
 // Whether 6 is given for a character. One that is its own lower case is not looked up again.
+#[tactic(auto, using(cd_taken_meaning::proofs::Laws::Unclassed::unclassed_taken, cd_taken_meaning::proofs::Laws::Unclassed::unclassed_not_taken))]
 fn is_unclassed(point: u32, hints: &mut [usize; HINTS], table: &Table, classes: &[u8]) -> bool
     requires { (good_table classes.now ≡ true) × (table.now ≡ packed_words) }
     ensures { result ≡ unclassed classes.now (class_of classes.now point) }

@@ -1,6 +1,6 @@
 -- By what the lookup finds; a character that is its own lower case has the class that was found. Assumes nothing.
 use mathlib.Core.Path.{sym, ◌∙◌}
-use Rattle.cd_taken_meaning.proofs.Laws.Unclassed.{unclassed_none, unclassed_taken, unclassed_not_taken, unclassed_itself}
+use Rattle.cd_taken_meaning.proofs.Laws.Unclassed.{unclassed_none, unclassed_itself}
 use Rattle.cd_taken.proofs.is_unclassed.Goals as goal
 
 pub enum_known-c : goal.enum_known-c
@@ -15,12 +15,3 @@ returns-in_default c = sym (unclassed_none _ (sym c.look_up_near.ensures ∙ c.i
 pub returns-then-c-point : goal.returns-then-c-point
 returns-then-c-point c =
     sym (unclassed_itself _ c.requires.0 (sym c.look_up_near.ensures ∙ c.in-At.is) c.if-c-point.true)
-
-pub returns-then-is_taken : goal.returns-then-is_taken
-returns-then-is_taken c =
-    c.some_missing.ensures
-    ∙ sym (unclassed_taken _ (sym c.look_up_near.ensures ∙ c.in-At.is) (sym c.is_taken.ensures ∙ c.if-is_taken.true))
-
-pub returns : goal.returns
-returns c =
-    sym (unclassed_not_taken _ (sym c.look_up_near.ensures ∙ c.in-At.is) (sym c.is_taken.ensures ∙ c.if-is_taken.false))
