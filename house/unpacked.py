@@ -66,16 +66,6 @@ def packed(*words):
     return made
 
 
-def shipped(room, wanted):
-    """The package for x86-64 on another machine: its example is compiled by the kit's clang, and run under the kit's emulator."""
-    made = packed(README_MACHINE)
-    done(["tar", "xzf", made], room, os.environ)
-    package = room / made.name.removesuffix(".tar.gz")
-    words = [package / "c/lines.c", package / "lib/libdrasumira.a", room / "lines-x86", package / "tables", package / "rust/examples/console.log"]
-    said = run([ROOT / "oracle/link/run-x86", *words], ROOT, os.environ)
-    need(said.stdout.split("\n")[:-1] == wanted, f"c/lines.c over the x86-64 package writes {said.stdout!r}; {said.stderr[-300:]}")
-
-
 def readme_commands():
     """The groups of README's part: each a list of (command, what it writes)."""
     text = (ROOT / "README.md").read_text(encoding="utf-8")
@@ -200,13 +190,10 @@ def main():
             user = room / "empty"
             user.mkdir()
             shutil.copy(made, user)
-            package, commands, other = user / made.name.removesuffix(".tar.gz"), 0, ""
+            package, commands = user / made.name.removesuffix(".tar.gz"), 0
             for title, group in readme_commands():
                 follow(group, user if title == "" else package, env)
                 commands += len(group)
-                if title == "From C" and MACHINE != README_MACHINE:
-                    shipped(room, group[-1][1])
-                    other = "; the package for x86-64 too, its example under the emulator"
             need(commands >= 8, f"README's part has {commands} commands")
             compilers, words = standards(package, env, room), refusals(package, env, room)
             tests = packed_by_cargo(package, env, room)
@@ -216,7 +203,7 @@ def main():
             # one line: ./test shows the last
             print(f"unpacked.py: {' '.join(str(fault).split())}", file=sys.stderr)
             sys.exit(1)
-    print(f"{made.stat().st_size} bytes, twice the same; without rt {commands} commands of README, the header by {compilers} standards, {words} refusals in C as in Rust, {tests} tests of the packed crate, {messages} damages told{other}")
+    print(f"{made.stat().st_size} bytes, twice the same; without rt {commands} commands of README, the header by {compilers} standards, {words} refusals in C as in Rust, {tests} tests of the packed crate, {messages} damages told")
 
 
 if __name__ == "__main__":
