@@ -241,10 +241,7 @@ class House:
     def inner(self, believed):
         roots = set()
         for crate in sorted({m[0] for m in self.files} | {p.name for p in (self.root / "crates").iterdir() if (p / "src").is_dir()}):
-            for _, names, aliases, clause in self.clauses(crate, None if crate != "host" else None, ("requires", "ensures")):
+            for _, names, aliases, clause in self.clauses(crate, None, ("requires", "ensures")):
                 roots |= self.contract(names, aliases, clause)
-        # host's own inner functions
-        for _, names, aliases, clause in self.clauses("host", ["flat_checked", "flat_read", "flat_scored", "flat_judged", "flat_ringed", "flat_reasoned", "flat_found"], ("requires", "ensures")):
-            roots |= self.contract(names, aliases, clause)
         seen, types = self.close(roots)
         return seen - believed, types

@@ -34,7 +34,7 @@ FAMILIES = {
 # the library's entries for a host, and their exports
 EXPORTED = {"host", "host_c"}
 # what a program that replays a list does with a case
-REPLAYS = re.compile(r"same_\w+|sum_bits|replay_all")
+REPLAYS = re.compile(r"same_\w+|sum_bits")
 
 
 def faults_of_lines():
@@ -52,7 +52,7 @@ def faults_of_lines():
 def faults_of_names():
     crates = {}
     for path in sorted((ROOT / "crates").glob("*/src/**/*.rt")):
-        for name in re.findall(r"(?m)^ *(?:pub )?(?:extern \"C\" )?fn (\w+)\(", path.read_text(encoding="utf-8")):
+        for name in re.findall(r"(?m)^ *(?:pub )?(?:extern \"C\" )?fn (\w+)[<(]", path.read_text(encoding="utf-8")):
             crates.setdefault(name, set()).add(path.relative_to(ROOT).parts[1])
     for name, found in sorted(crates.items()):
         replay = REPLAYS.fullmatch(name) and all(c.startswith("replay_") for c in found)

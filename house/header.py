@@ -210,13 +210,19 @@ def numbers(words):
     return {name: int(value.replace("_", ""), 0) for name, value in re.findall(r"const (\w+): (?:u32|u64|usize) = (\w+);", words)}
 
 
+def variants(words):
+    """The numbers of an enum's variants, by the names that a constant of each would have."""
+    return {re.sub(r"(?<!^)(?=[A-Z])", "_", name).upper(): int(value) for name, value in re.findall(r"(?m)^    ([A-Z]\w*) = (\d+),", words)}
+
+
 def faults_of_numbers(header, rust):
     told = {name: int(value, 0) for name, value in header.defines.items() if re.fullmatch(r"0x[0-9A-F]+|\d+", value)}
     flags = {FLAG + name: value for name, value in numbers(text_of("crates/base/src/flags.rt")).items() if name != "FLAGS_END"}
     if {name: value for name, value in told.items() if name.startswith(FLAG)} != flags:
         yield "the flags are not those of crates/base"
     refusals = {"ACCEPTED": 0, **numbers(text_of("rust/src/refusal.rs"))}
-    if refusals != numbers(text_of("crates/base/src/refusals.rt")):
+    causes = text_of("crates/base/src/refusals.rt")
+    if refusals != {**numbers(causes), **variants(causes)}:
         yield "the refusals of rust/src/refusal.rs are not those of crates/base"
     limits = {}
     for path in sorted((ROOT / "crates").glob("*/src/**/*.rt")):

@@ -23,6 +23,13 @@ FOLLOWS = ("which was rejected, was not checked", "which was rejected, were not 
 SHAPE = ("has no `", "expected type `goal.", "is not in scope", "has no field", "is no name", "this λ has", "unknown name", "not found in module")
 
 
+def of_shape(message):
+    """Whether a refusal is of the answer's shape. The goal of a generic function is printed by its name, `goal.the-asks-..`; there the fact is seen where the two types differ, which antt then shows."""
+    if "the two types differ only where" in message:
+        message = message.replace("expected type `goal.the-asks-", "")
+    return any(sign in message for sign in SHAPE)
+
+
 def place_of(path):
     """proofs/X/Answers.antt and its fellows are X; proofs/X.antt is X; another file of the crate goes by its own path."""
     inside = re.sub(r"(/(Answers|Invariants|Proof))?\.antt$", "", path.removeprefix("./"))
@@ -46,7 +53,7 @@ def faults(edit, log):
     if not re.search(rf"(?m)^{LOGIC}", log):
         yield "the prover did not refuse it"
     for place, need, message in own:
-        if any(sign in " ".join(message.split()) for sign in SHAPE):
+        if of_shape(" ".join(message.split())):
             yield f"{place} at {need}: refused for its shape: {message[:160]}"
     met = {(place, need) for place, need, _ in own}
     for program in edit.programs:

@@ -122,7 +122,7 @@ def path_without_name(tree):
 
 
 def name_of_another(tree):
-    changed(tree / "crates/md/src/lib.rt", "pub fn unscored(", "pub fn refuse(")
+    changed(tree / "crates/md/src/lib.rt", "pub fn whole_score(", "pub fn refuse(")
 
 
 HEADER = "include/drasumira.h"
@@ -178,7 +178,7 @@ def size_wrong_in_the_document(tree):
 
 
 def refusal_without_a_number(tree):
-    changed(tree / "crates/base/src/refusals.rt", "pub const BAD_STATE: u32 = 19;", "pub const BAD_STATE: u32 = 19;\n\npub const STRANGE: u32 = 20;")
+    changed(tree / "crates/base/src/refusals.rt", "    BadState = 19,", "    BadState = 19,\n    Strange = 20,")
 
 
 def refusal_not_in_the_header(tree):

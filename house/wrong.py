@@ -19,11 +19,11 @@ import re
 from pathlib import Path
 
 ALONE = ("definition", "contract", "constant")
-SIGNS = re.compile(r"(?m)^\s*(?:#\[unsafe\(no_mangle\)\]\s*)?(?:pub )?(?:extern \"C\" )?fn (\w+)|^\s*(?:pub )?(?:const|static) (\w+)|^impl (\w+)|^(\})")
+SIGNS = re.compile(r"(?m)^\s*(?:#\[unsafe\(no_mangle\)\]\s*)?(?:pub )?(?:extern \"C\" )?fn (\w+)|^\s*(?:pub )?(?:const|static) (\w+)|^impl ([^\n{]+) \{|^(\})")
 # The files of a function's proof, and what Rattle calls a goal, which need not stand in one: most are closed without an answer.
 PROOF_FILES = ("Answers", "Invariants", "Proof")
 GOAL = re.compile(
-    r"returns(-(then|else|after|in)[-_].+)?|loop-\w+-(init|preserved|smaller)(-.+)?|\w+(-\w+)*-requires(-\d+|-(then|else|in)-.+)?"
+    r"returns(-(then|else|after|in|clause)[-_].+)?|loop-\w+-(init|preserved|smaller)(-.+)?|\w+(-\w+)*-requires(-\d+|-(then|else|in)-.+)?"
     r"|(overflow|int_to|float_to|float_from|enum|shape)_\w+-.+|(offset_|slice_)?bounds-.+"
 )
 
@@ -86,8 +86,16 @@ def programs(edit):
         yield now
 
 
+def owner_of(head):
+    """What Rattle calls an `impl`: by its type, or, of a trait, by the words of the type and of the trait."""
+    trait, _, own = head.rpartition(" for ")
+    if not trait:
+        return re.match(r"\w+", own)[0]
+    return "".join(word[0].upper() + word[1:] for word in re.findall(r"\w+", own) + re.findall(r"\w+", trait))
+
+
 def function_at(text, at):
-    """The function of a source file that a place in it belongs to (`Type/name` for a method), `const` for a constant, or None."""
+    """The function of a source file that a place in it belongs to (`Owner/name` in an `impl`), `const` for a constant, or None."""
     inside, found, owner = None, None, None
     line = text.rfind("\n", 0, at) + 1
     for sign in SIGNS.finditer(text):
@@ -95,7 +103,7 @@ def function_at(text, at):
             break
         name, constant, owner_new, closed = sign.groups()
         if owner_new:
-            inside = owner_new
+            inside = owner_of(owner_new)
         elif closed:
             inside, found = (None, None) if sign.start() < line else (inside, found)
         elif constant:

@@ -5,8 +5,6 @@
 ghost use Rattle.std.specs.Prelude.{◌≡◌, ◌+◌, ◌<◌, ◌≤◌, length};
 ghost use Rattle.base.specs.Among.{among};
 ghost use Rattle.base.specs.Causes.{refused_at};
-ghost use Rattle.base.specs.Counted.{count_unless};
-ghost use Rattle.base.specs.Inner.Counted.{cause_of};
 ghost use Rattle.base.specs.Flags.{has};
 ghost use Rattle.base.specs.Inner.LittleEndian.{Word};
 ghost use Rattle.base.specs.Inner.Numbers.{One, Picked, Wide};
@@ -15,59 +13,20 @@ pub mod flags;
 pub mod limits;
 pub mod refusals;
 
-// Why a call refused its input: 01's number of the cause, and the place that 01 names for it, 0 where it names none.
-#[derive(Clone, Copy)]
+pub use refusals::Cause;
+
+// Why a call refused its input: 01's cause, and the place that 01 names for it, 0 where it names none.
+#[derive(Clone, Copy, Debug, PartialEq, Eq)]
 pub struct Refusal {
-    pub number: u32,
+    pub cause: Cause,
     pub place: u32,
 }
 
-// Whether a call is refused, and why.
-#[derive(Clone, Copy)]
-pub enum Cause {
-    Allowed,
-    Refused(Refusal),
-}
-
-// What a call answers that counts: how many, or why it refused.
-#[derive(Clone, Copy)]
-pub enum Counted {
-    Count(u32),
-    Refused(Refusal),
-}
-
-// The cause of a refusal.
-pub fn refuse(number: u32, place: u32) -> Cause
-    ensures { result ≡ refused_at number place }
+// A refusal, whatever the call answers else.
+pub fn refuse<T>(cause: Cause, place: u32) -> Result<T, Refusal>
+    ensures { result ≡ refused_at cause place }
 {
-    Cause::Refused(Refusal { number, place })
-}
-
-// A count where no cause is there.
-pub fn count_unless(cause: Cause, n: u32) -> Counted
-    ensures { result ≡ count_unless cause n }
-{
-    match cause {
-        Cause::Allowed => Counted::Count(n),
-        Cause::Refused(why) => Counted::Refused(why),
-    }
-}
-
-// A refusal where a count was asked for.
-pub fn not_counted(number: u32, place: u32) -> Counted
-    ensures { result ≡ count_unless (refused_at number place) 0 }
-{
-    Counted::Refused(Refusal { number, place })
-}
-
-// The cause that an answer tells.
-pub fn cause_of(answer: Counted) -> Cause
-    ensures { result ≡ cause_of answer }
-{
-    match answer {
-        Counted::Count(_) => Cause::Allowed,
-        Counted::Refused(why) => Cause::Refused(why),
-    }
+    Err(Refusal { cause, place })
 }
 
 // Whether the bit of weight `bit` is set in a flag word. Division, since the proofs compute it; the compiler makes a mask of it.
@@ -112,10 +71,8 @@ pub fn holds(list: &[u32], x: u32) -> bool
     ensures { result ≡ among x list.now }
 {
     let mut held = false;
-    let mut k = 0;
-    while k < list.len() {
-        held = held | (list[k] == x);
-        k += 1;
+    for y in list {
+        held = held | (*y == x);
     }
     held
 }

@@ -6,8 +6,7 @@ ghost use Rattle.class_records.specs.Records.{good_table};
 ghost use Rattle.cd_meaning.specs.Causes as spec;
 
 use base::limits::{LANGUAGE_RECORD, LONGEST_RANKED, WORK_PER_POINT};
-use base::refusals::{NO_ROOM, NOT_FINITE, TOO_LONG, UNCLASSED};
-use base::{Cause, refuse};
+use base::{Cause, Refusal, refuse};
 use ratio::finite::is_finite;
 
 // The first of all causes: `work` and `room` are how many words and matches the caller lends.
@@ -20,14 +19,14 @@ pub fn first_cause(
     included: &[u32],
     work: usize,
     room: usize,
-) -> Cause
+) -> Result<(), Refusal>
     ensures { result ≡ spec.causes text.now threshold classes.now pairs.now languages.now included.now work room }
 {
     if text.len() > LONGEST_RANKED {
-        return refuse(TOO_LONG, 0);
+        return refuse(Cause::TooLong, 0);
     }
     if !is_finite(threshold) {
-        return refuse(NOT_FINITE, 0);
+        return refuse(Cause::NotFinite, 0);
     }
     of_tables(text, classes, pairs, languages, included, work, room)
 }
@@ -41,17 +40,13 @@ fn of_tables(
     included: &[u32],
     work: usize,
     room: usize,
-) -> Cause
+) -> Result<(), Refusal>
     requires { length text.now ≤ LONGEST_RANKED }
     ensures { result ≡ first_of (spec.of_tables text.now classes.now pairs.now languages.now included.now work room) }
 {
-    match classes::bad_classes(classes) {
-        Cause::Refused(why) => Cause::Refused(why),
-        Cause::Allowed => match classes::bad_pairs(pairs) {
-            Cause::Refused(why) => Cause::Refused(why),
-            Cause::Allowed => of_languages(text, classes, languages, included, work, room),
-        },
-    }
+    classes::bad_classes(classes)?;
+    classes::bad_pairs(pairs)?;
+    of_languages(text, classes, languages, included, work, room)
 }
 
 // 8, 9, and those behind them.
@@ -62,31 +57,33 @@ fn of_languages(
     included: &[u32],
     work: usize,
     room: usize,
-) -> Cause
+) -> Result<(), Refusal>
     requires { (length text.now ≤ LONGEST_RANKED) × (good_table classes.now ≡ true) }
     ensures { result ≡ first_of (spec.of_languages text.now classes.now languages.now included.now work room) }
 {
-    match cd_languages::bad_languages(languages) {
-        Cause::Refused(why) => Cause::Refused(why),
-        Cause::Allowed => match cd_languages::included::bad_included(included, languages) {
-            Cause::Refused(why) => Cause::Refused(why),
-            Cause::Allowed => of_text(text, classes, languages, work, room),
-        },
-    }
+    cd_languages::bad_languages(languages)?;
+    cd_languages::included::bad_included(included, languages)?;
+    of_text(text, classes, languages, work, room)
 }
 
 // 3 and 6.
-fn of_text(text: &[u32], classes: &[u8], languages: &[u8], work: usize, room: usize) -> Cause
+fn of_text(
+    text: &[u32],
+    classes: &[u8],
+    languages: &[u8],
+    work: usize,
+    room: usize,
+) -> Result<(), Refusal>
     requires { (length text.now ≤ LONGEST_RANKED) × (good_table classes.now ≡ true) }
     ensures { result ≡ first_of (spec.of_text text.now classes.now languages.now work room) }
 {
     let n = text.len();
     if (room < languages.len() / LANGUAGE_RECORD) | (work < WORK_PER_POINT * n) {
-        return refuse(NO_ROOM, 0);
+        return refuse(Cause::NoRoom, 0);
     }
     let place = cd_taken::first_unclassed(text, classes);
     if place < n {
-        return refuse(UNCLASSED, place as u32);
+        return refuse(Cause::Unclassed, place as u32);
     }
-    Cause::Allowed
+    Ok(())
 }

@@ -7,7 +7,7 @@ ghost use Rattle.cd_meaning.specs.Causes.{causes, causes_default};
 ghost use Rattle.cd_meaning.specs.Inner.Causes.{Free};
 ghost use Rattle.cd_meaning.specs.Coherence as spec;
 
-use base::Cause;
+use base::Refusal;
 use base::limits::WORK_PER_POINT;
 use causes::first_cause;
 use cd_ranking::Ranking;
@@ -54,11 +54,11 @@ pub fn coherence_ratio(
     included: &[u32],
     work: &mut [u32],
     room: usize,
-) -> Ranking
+) -> Result<Ranking, Refusal>
     ensures value { result ≡ spec.coherence_ratio text.now threshold small classes.now pairs.now languages.now included.now (length work.old) room }
     ensures work_after { work.new ≡ spec.work_after (causes text.now threshold classes.now pairs.now languages.now included.now (length work.old) room) text.now work.old }
 {
-    match first_cause(
+    first_cause(
         text,
         threshold,
         classes,
@@ -67,12 +67,10 @@ pub fn coherence_ratio(
         included,
         work.len(),
         room,
-    ) {
-        Cause::Refused(r) => cd_ranking::refused(r.number, r.place),
-        Cause::Allowed => rank_text(
-            text, threshold, small, classes, pairs, languages, included, work,
-        ),
-    }
+    )?;
+    Ok(rank_text(
+        text, threshold, small, classes, pairs, languages, included, work,
+    ))
 }
 
 // The same at 01's default threshold.
@@ -85,7 +83,7 @@ pub fn coherence_ratio_default(
     included: &[u32],
     work: &mut [u32],
     room: usize,
-) -> Ranking
+) -> Result<Ranking, Refusal>
     ensures value { result ≡ spec.coherence_ratio_default text.now small classes.now pairs.now languages.now included.now (length work.old) room }
     ensures work_after { work.new ≡ spec.work_after (causes_default text.now classes.now pairs.now languages.now included.now (length work.old) room) text.now work.old }
 {

@@ -75,11 +75,17 @@ pub fn read_layers(
     ensures { (result ≡ read_from threshold small classes.now languages.now included.now slots work.old 0 count standings.start) × Kept slots work.old work.new }
 {
     let mut s = cd_best::start();
-    let mut k = 0;
-    while k < count {
-        k += 1;
+    for k in 0..count {
         s = read_layer(
-            s, work, slots, k as u32, threshold, small, classes, languages, included,
+            s,
+            work,
+            slots,
+            (k + 1) as u32,
+            threshold,
+            small,
+            classes,
+            languages,
+            included,
         );
     }
     s

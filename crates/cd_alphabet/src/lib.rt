@@ -22,10 +22,8 @@ pub fn mark(layer: &[u32], sieve: &mut [bool])
     requires { spec.SIEVE ≤ length sieve.old }
     ensures { Sieved layer.now sieve.new }
 {
-    let mut k = 0;
-    while k < layer.len() {
-        sieve[layer[k] as usize % SIEVE] = true;
-        k += 1;
+    for x in layer {
+        sieve[*x as usize % SIEVE] = true;
     }
 }
 
@@ -45,16 +43,12 @@ pub fn share(layer: &[u32], sieve: &[bool], alphabet: &[u32]) -> Fraction
     requires { Sieved layer.now sieve.now × (length alphabet.now ≤ LANGUAGE_LETTERS) }
     ensures { result ≡ alphabet_share layer.now alphabet.now }
 {
-    let n = alphabet.len();
     let mut num = 0;
     let mut den = 0;
-    let mut i = 0;
-    while i < n {
-        let x = alphabet[i];
-        let last = !holds(&alphabet[i + 1..], x);
-        num = num + one(last & in_layer(layer, sieve, x));
+    for (i, x) in alphabet.iter().enumerate() {
+        let last = !holds(&alphabet[i + 1..], *x);
+        num = num + one(last & in_layer(layer, sieve, *x));
         den = den + one(last);
-        i += 1;
     }
     Fraction { num, den }
 }

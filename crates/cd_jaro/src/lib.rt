@@ -61,13 +61,8 @@ fn place(language: &[u32], taken: &[bool], x: u32, i: usize, w: usize) -> usize
             return n;
         }
     }
-    let mut j = start;
-    while j < end {
-        if language[j] != x {
-            j += 1;
-        } else if taken[j] {
-            j += 1;
-        } else {
+    for j in start..end {
+        if language[j] == x && !taken[j] {
             return j;
         }
     }
@@ -81,14 +76,10 @@ fn out_of_order(language: &[u32], taken: &[bool], letters: &[u32]) -> usize
 {
     let mut out = 0;
     let mut k = 0;
-    let mut j = 0;
-    while j < language.len() {
+    for (j, y) in language.iter().enumerate() {
         if taken[j] {
-            out += one(letters[k] != language[j]) as usize;
+            out += one(letters[k] != *y) as usize;
             k += 1;
-            j += 1;
-        } else {
-            j += 1;
         }
     }
     out
@@ -104,17 +95,12 @@ pub fn matched(layer: &[u32], language: &[u32]) -> Counts
     let mut taken = [false; LANGUAGE_LETTERS];
     let mut letters = [0u32; LANGUAGE_LETTERS];
     let mut m = 0;
-    let mut i = 0;
-    while i < layer.len() {
-        let x = layer[i];
-        let j = place(language, &taken[..n], x, i, w);
+    for (i, x) in layer.iter().enumerate() {
+        let j = place(language, &taken[..n], *x, i, w);
         if j < n {
             taken[j] = true;
-            letters[m] = x;
+            letters[m] = *x;
             m += 1;
-            i += 1;
-        } else {
-            i += 1;
         }
     }
     let out = out_of_order(language, &taken[..n], &letters[..m]);

@@ -4,8 +4,7 @@ ghost use Rattle.cd_languages.specs.Included.{lone_zero, in_table, first_missing
 
 use crate::first_record;
 use base::limits::{LANGUAGE_RECORD, MOST_INCLUDED};
-use base::refusals::BAD_INCLUDED;
-use base::{Cause, Counted, refuse};
+use base::{Cause, Refusal, refuse};
 
 // Whether the list is the single number 0, which means pure Latin languages only.
 pub fn lone_zero(included: &[u32]) -> bool
@@ -28,40 +27,36 @@ fn in_table(languages: &[u8], x: u32) -> bool
 fn first_missing(included: &[u32], languages: &[u8]) -> usize
     ensures { result ≡ first_missing included.now languages.now }
 {
-    let mut i = 0;
-    while i < included.len() {
-        if !in_table(languages, included[i]) {
+    for (i, x) in included.iter().enumerate() {
+        if !in_table(languages, *x) {
             return i;
         }
-        i += 1;
     }
-    i
+    included.len()
 }
 
 // Refusal 9: over 64 at 0, then the first that is not in the table, but for a lone 0.
-pub fn bad_included(included: &[u32], languages: &[u8]) -> Cause
+pub fn bad_included(included: &[u32], languages: &[u8]) -> Result<(), Refusal>
     ensures { result ≡ bad_included included.now languages.now }
 {
     let n = included.len();
     if n > MOST_INCLUDED {
-        return refuse(BAD_INCLUDED, 0);
+        return refuse(Cause::BadIncluded, 0);
     }
     if lone_zero(included) {
-        return Cause::Allowed;
+        return Ok(());
     }
     let missing = first_missing(included, languages);
     if missing < n {
-        return refuse(BAD_INCLUDED, missing as u32);
+        return refuse(Cause::BadIncluded, missing as u32);
     }
-    Cause::Allowed
+    Ok(())
 }
 
 // How many included numbers there are, or why they are refused.
-pub fn check_included(included: &[u32], languages: &[u8]) -> Counted
+pub fn check_included(included: &[u32], languages: &[u8]) -> Result<u32, Refusal>
     ensures { result ≡ checked_included included.now languages.now }
 {
-    match bad_included(included, languages) {
-        Cause::Refused(why) => Counted::Refused(why),
-        Cause::Allowed => Counted::Count(included.len() as u32),
-    }
+    bad_included(included, languages)?;
+    Ok(included.len() as u32)
 }

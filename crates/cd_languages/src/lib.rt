@@ -14,8 +14,7 @@ use base::limits::{
     LANGUAGE_LETTERS, LANGUAGE_RECORD, LAST_POINT, MOST_LANGUAGES, MOST_MARKS, SURROGATE_FIRST,
     SURROGATE_LAST,
 };
-use base::refusals::BAD_LANGUAGES;
-use base::{Cause, Counted, is_set, refuse, u32_at};
+use base::{Cause, Refusal, is_set, refuse, u32_at};
 
 pub mod included;
 pub mod slots;
@@ -101,10 +100,8 @@ fn used_good(t: &[u8], i: usize, n: usize) -> bool
     ensures { result ≡ each (slot_good t.now i) n }
 {
     let mut good = true;
-    let mut k = 0;
-    while k < n {
+    for k in 0..n {
         good = good & is_scalar(slot_at(t, i, k));
-        k += 1;
     }
     good
 }
@@ -115,10 +112,8 @@ fn slots_good(t: &[u8], i: usize, n: usize, used: bool) -> bool
     ensures { result ≡ good_slots t.now i }
 {
     let mut good = used;
-    let mut k = n;
-    while k < LANGUAGE_LETTERS {
+    for k in n..LANGUAGE_LETTERS {
         good = good & (slot_at(t, i, k) == 0);
-        k += 1;
     }
     good
 }
@@ -142,42 +137,38 @@ fn first_bad(t: &[u8]) -> usize
     ensures { result ≡ first_bad t.now }
 {
     let n = t.len() / LANGUAGE_RECORD;
-    let mut i = 0;
-    while i < n {
+    for i in 0..n {
         if !record_good(t, i) {
             return i;
         }
-        i += 1;
     }
-    i
+    n
 }
 
 // Refusal 8: a length or a number of records that is not allowed at 0, then the first bad record.
-pub fn bad_languages(t: &[u8]) -> Cause
+pub fn bad_languages(t: &[u8]) -> Result<(), Refusal>
     ensures { result ≡ bad_languages t.now }
 {
     let n = t.len() / LANGUAGE_RECORD;
     if t.len() % LANGUAGE_RECORD != 0 {
-        return refuse(BAD_LANGUAGES, 0);
+        return refuse(Cause::BadLanguages, 0);
     }
     if n > MOST_LANGUAGES {
-        return refuse(BAD_LANGUAGES, 0);
+        return refuse(Cause::BadLanguages, 0);
     }
     let bad = first_bad(t);
     if bad < n {
-        return refuse(BAD_LANGUAGES, bad as u32);
+        return refuse(Cause::BadLanguages, bad as u32);
     }
-    Cause::Allowed
+    Ok(())
 }
 
 // How many records a good language table has, or why it is refused.
-pub fn check_languages(languages: &[u8]) -> Counted
+pub fn check_languages(languages: &[u8]) -> Result<u32, Refusal>
     ensures { result ≡ checked languages.now }
 {
-    match bad_languages(languages) {
-        Cause::Refused(why) => Counted::Refused(why),
-        Cause::Allowed => Counted::Count((languages.len() / LANGUAGE_RECORD) as u32),
-    }
+    bad_languages(languages)?;
+    Ok((languages.len() / LANGUAGE_RECORD) as u32)
 }
 
 // The first record with the number x, or the number of records.
@@ -185,12 +176,10 @@ pub fn first_record(t: &[u8], x: u32) -> usize
     ensures { result ≡ first_record t.now x }
 {
     let n = t.len() / LANGUAGE_RECORD;
-    let mut i = 0;
-    while i < n {
+    for i in 0..n {
         if number_at(t, i) == x {
             return i;
         }
-        i += 1;
     }
-    i
+    n
 }

@@ -14,10 +14,8 @@ pub fn read_letters(t: &[u8], i: usize, out: &mut [u32]) -> usize
     ensures { (result ≡ letter_count t.now i) × (out.new ≡ put out.old 0 (letters_of t.now i)) }
 {
     let n = count_at(t, i);
-    let mut k = 0;
-    while k < n {
+    for k in 0..n {
         out[k] = letter_at(t, i, k);
-        k += 1;
     }
     n
 }

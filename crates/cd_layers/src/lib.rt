@@ -19,14 +19,12 @@ const MOST_LAYERS: usize = LAST_RANGE as usize;
 fn own(keys: &[u32], range: u32) -> usize
     ensures { result ≡ oldest (is_own range) keys.now }
 {
-    let mut j = 0;
-    while j < keys.len() {
-        if keys[j] == range {
+    for (j, key) in keys.iter().enumerate() {
+        if *key == range {
             return j;
         }
-        j += 1;
     }
-    j
+    keys.len()
 }
 
 // The place of the layer that a character of this range joins; past the last where one is to be made.
@@ -34,11 +32,8 @@ fn layer_for(pairs: &[u8], keys: &[u32], range: u32) -> usize
     requires { (length pairs.now ≡ PAIR_BYTES) × (range ≤ LAST_RANGE) × Below keys.now }
     ensures { result ≡ layer_for pairs.now keys.now range }
 {
-    let mut j = 0;
-    while j < keys.len() {
-        if is_suspicious(pairs, keys[j], range) {
-            j += 1;
-        } else {
+    for (j, key) in keys.iter().enumerate() {
+        if !is_suspicious(pairs, *key, range) {
             return j;
         }
     }
@@ -53,21 +48,16 @@ pub fn alpha_unicode_split(work: &mut [u32], slots: usize, pairs: &[u8]) -> usiz
 {
     let mut keys = [0u32; MOST_LAYERS];
     let mut count = 0;
-    let mut i = 0;
-    while i < slots {
+    for i in 0..slots {
         let range = work[i];
         if range == 0 {
-            i += 1;
-        } else {
-            let j = layer_for(pairs, &keys[..count], range);
-            work[i] = (j + 1) as u32;
-            if j == count {
-                keys[count] = range;
-                count += 1;
-                i += 1;
-            } else {
-                i += 1;
-            }
+            continue;
+        }
+        let j = layer_for(pairs, &keys[..count], range);
+        work[i] = (j + 1) as u32;
+        if j == count {
+            keys[count] = range;
+            count += 1;
         }
     }
     count

@@ -1,5 +1,4 @@
 pub mod Gathering
 pub mod Halving
 pub mod Settling
-pub mod Shifting
 pub mod Sizing

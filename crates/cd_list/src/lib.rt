@@ -1,11 +1,13 @@
 // The lent list of matches. What decides is by value, in crate cd_ranking; here its matches are put into the list.
 #![tactic(auto)]
 
-ghost use Rattle.std.specs.Prelude.{◌≡◌, ◌<◌, ◌≤◌, length};
+ghost use Rattle.std.specs.Prelude.{◌≡◌, ◌<◌, ◌≤◌, length, IfOk};
 ghost use Rattle.base.specs.Limits.{MOST_LANGUAGES};
 ghost use Rattle.base.specs.Put as lent;
-ghost use Rattle.cd_list.specs.Inner.Lent.{entry_of, matches_in, answer_of};
+ghost use Rattle.cd_list.specs.Inner.Lent.{entry_of, matches_of, matches_in, answer_of};
 
+use base::Refusal;
+use base::refusals::ACCEPTED;
 use cd_ranking::{CoherenceMatch, Ranking};
 
 // What a call that fills a lent list answers: the number and place of a refusal, or ACCEPTED, 0 and how many matches there are.
@@ -27,26 +29,40 @@ fn entry_at(r: Ranking, i: usize) -> CoherenceMatch
     }
 }
 
-fn answer_of(r: Ranking) -> HostRanking
-    ensures { result ≡ answer_of r }
+// Puts the matches of a ranking into the first entries of a lent list; the rest stays.
+fn put_matches(out: &mut [CoherenceMatch], r: Ranking)
+    requires { (r.count ≤ MOST_LANGUAGES) × (r.count ≤ length out.old) }
+    ensures { out.new ≡ lent.put out.old 0 (matches_of r) }
 {
-    HostRanking {
-        number: r.number,
-        place: r.place,
-        count: r.count,
+    for i in 0..r.count as usize {
+        out[i] = entry_at(r, i);
     }
 }
 
-// Puts the matches of a ranking into the first entries of a lent list; the rest stays.
-pub fn put(out: &mut [CoherenceMatch], r: Ranking) -> HostRanking
-    requires { (r.count ≤ MOST_LANGUAGES) × (r.count ≤ length out.old) }
+fn answer_of(r: Result<Ranking, Refusal>) -> HostRanking
+    ensures { result ≡ answer_of r }
+{
+    match r {
+        Ok(ranking) => HostRanking {
+            number: ACCEPTED,
+            place: 0,
+            count: ranking.count,
+        },
+        Err(why) => HostRanking {
+            number: why.cause.number(),
+            place: why.place,
+            count: 0,
+        },
+    }
+}
+
+// Puts the matches of a ranking that is not refused into a lent list, and answers. A refusal leaves the list as it was.
+pub fn put(out: &mut [CoherenceMatch], r: Result<Ranking, Refusal>) -> HostRanking
+    requires { IfOk r (λ q. (q.count ≤ MOST_LANGUAGES) × (q.count ≤ length out.old)) }
     ensures { (result ≡ answer_of r) × (out.new ≡ lent.put out.old 0 (matches_in r)) }
 {
-    let n = r.count as usize;
-    let mut i = 0;
-    while i < n {
-        out[i] = entry_at(r, i);
-        i += 1;
+    if let Ok(ranking) = r {
+        put_matches(out, ranking);
     }
     answer_of(r)
 }

@@ -14,6 +14,7 @@ ghost use Rattle.cd_matches.specs.Inner.LayerRead.{layer_read};
 ghost use Rattle.cd_matches.specs.Inner.Put.{Put};
 ghost use Rattle.cd_matches.specs.Inner.Records.{Records};
 
+use crate::search::alphabet_languages;
 use base::limits::{LANGUAGE_LETTERS, MOST_INCLUDED};
 use cd_best::{ENOUGH, Standing};
 use cd_jaro::similarity;
@@ -23,20 +24,15 @@ use cd_languages::slots::read_letters;
 
 pub mod search;
 
-use crate::search::alphabet_languages;
-
 // Puts the first record with each included number into the first places of out; how many there are.
 fn included_records(t: &[u8], included: &[u32], out: &mut [u32]) -> usize
     requires { (good_languages t.now ≡ true) × (length included.now ≤ length out.old) }
     ensures { Put (map (first_record t.now) included.now) out.old out.new result }
 {
-    let n = included.len();
-    let mut k = 0;
-    while k < n {
-        out[k] = first_record(t, included[k]) as u32;
-        k += 1;
+    for (k, x) in included.iter().enumerate() {
+        out[k] = first_record(t, *x) as u32;
     }
-    n
+    included.len()
 }
 
 // Puts the first records of the languages that the layer is compared with, in order, into the first places of out; how many there are.
@@ -79,19 +75,16 @@ fn compare(
 {
     let mut letters = [0u32; LANGUAGE_LETTERS];
     let mut s = standing;
-    let mut i = 0;
-    while i < records.len() {
-        let at = records[i] as usize;
+    for record in records {
+        let at = *record as usize;
         let score = score_at(order, languages, at, &mut letters);
         if score < threshold {
-            i += 1;
-        } else {
-            s = s.keep(at, score);
-            let n = s.sufficient;
-            if ENOUGH <= n {
-                return s;
-            }
-            i += 1;
+            continue;
+        }
+        s = s.keep(at, score);
+        let n = s.sufficient;
+        if ENOUGH <= n {
+            return s;
         }
     }
     s

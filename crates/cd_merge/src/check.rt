@@ -43,14 +43,7 @@ pub fn score_of(list: &[u32], i: usize) -> f32
 fn any_over(lengths: &[u32]) -> bool
     ensures { result ≡ over lengths.now }
 {
-    let mut i = 0;
-    while i < lengths.len() {
-        if LONGEST_RANKING < lengths[i] {
-            return true;
-        }
-        i += 1;
-    }
-    false
+    lengths.iter().any(|length| LONGEST_RANKING < *length)
 }
 
 // What the lengths add up to.
@@ -59,10 +52,8 @@ fn total(lengths: &[u32]) -> usize
     ensures { result ≡ total lengths.now }
 {
     let mut sum = 0;
-    let mut i = 0;
-    while i < lengths.len() {
-        sum += lengths[i] as usize;
-        i += 1;
+    for length in lengths {
+        sum += *length as usize;
     }
     sum
 }
@@ -96,12 +87,10 @@ pub fn first_bad(list: &[u32]) -> usize
     ensures { result ≡ first_bad list.now }
 {
     let n = entries(list);
-    let mut i = 0;
-    while i < n {
+    for i in 0..n {
         if !is_score(list[i * 2 + 1]) {
             return i;
         }
-        i += 1;
     }
-    i
+    n
 }

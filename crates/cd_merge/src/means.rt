@@ -12,12 +12,10 @@ pub fn is_first(list: &[u32], i: usize) -> bool
     ensures { result ≡ is_first list.now i }
 {
     let language = language_at(list, i);
-    let mut k = 0;
-    while k < i {
+    for k in 0..i {
         if language_at(list, k) == language {
             return false;
         }
-        k += 1;
     }
     true
 }
@@ -30,14 +28,10 @@ pub fn mean_of(list: &[u32], language: u32) -> f32
     let n = entries(list);
     let mut sum = 0.0;
     let mut count = 0u32;
-    let mut i = 0;
-    while i < n {
+    for i in 0..n {
         if language_at(list, i) == language {
             sum = sum + score_of(list, i);
             count += 1;
-            i += 1;
-        } else {
-            i += 1;
         }
     }
     sum / count as f32

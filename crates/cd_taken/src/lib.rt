@@ -19,7 +19,7 @@ use cd_letters::size;
 use cd_taken_meaning::Letter;
 use cd_work::letters_start;
 use class_builtin::Table;
-use classes::{Class, Found, HINTS, look_up_near};
+use classes::{Class, HINTS, look_up_near};
 
 // U+0130, which lowers to two letters: the one that its class has, U+0069, and the dot above behind it.
 const CAPITAL_I_WITH_DOT: u32 = 0x130;
@@ -37,10 +37,7 @@ fn is_missing(point: u32, hints: &mut [usize; HINTS], table: &Table, classes: &[
     requires { (good_table classes.now ≡ true) × (table.now ≡ packed_words) }
     ensures { result ≡ missing (class_of classes.now point) }
 {
-    let Found::At(_) = look_up_near(point, hints, table, classes) else {
-        return true;
-    };
-    false
+    look_up_near(point, hints, table, classes).is_none()
 }
 
 // Whether some letter of those that a character of this class lowers to has no class.
@@ -63,7 +60,7 @@ fn is_unclassed(point: u32, hints: &mut [usize; HINTS], table: &Table, classes: 
     requires { (good_table classes.now ≡ true) × (table.now ≡ packed_words) }
     ensures { result ≡ unclassed classes.now (class_of classes.now point) }
 {
-    let Found::At(c) = look_up_near(point, hints, table, classes) else {
+    let Some(c) = look_up_near(point, hints, table, classes) else {
         return true;
     };
     if c.lower == point {
@@ -82,21 +79,19 @@ pub fn first_unclassed(text: &[u32], classes: &[u8]) -> usize
 {
     let table = class_builtin::table();
     let mut hints = [0; HINTS];
-    let mut i = 0;
-    while i < text.len() {
-        if is_unclassed(text[i], &mut hints, &table, classes) {
+    for (i, point) in text.iter().enumerate() {
+        if is_unclassed(*point, &mut hints, &table, classes) {
             return i;
         }
-        i += 1;
     }
-    i
+    text.len()
 }
 
 fn letter_of(point: u32, hints: &mut [usize; HINTS], table: &Table, classes: &[u8]) -> Letter
     requires { (good_table classes.now ≡ true) × (table.now ≡ packed_words) }
     ensures { result ≡ letter_of (class_of classes.now point) }
 {
-    let Found::At(c) = look_up_near(point, hints, table, classes) else {
+    let Some(c) = look_up_near(point, hints, table, classes) else {
         return Letter { range: 0, lower: 0 };
     };
     let taken = is_taken(c);
@@ -152,11 +147,9 @@ fn fill_single(text: &[u32], slots: usize, classes: &[u8], work: &mut [u32])
     let letters = letters_start(slots);
     let table = class_builtin::table();
     let mut hints = [0; HINTS];
-    let mut i = 0;
-    while i < text.len() {
-        let letter = letter_of(text[i], &mut hints, &table, classes);
+    for (i, point) in text.iter().enumerate() {
+        let letter = letter_of(*point, &mut hints, &table, classes);
         put_slot(work, letters, i, letter.range, letter.lower);
-        i += 1;
     }
 }
 
@@ -169,18 +162,14 @@ fn fill_each(text: &[u32], slots: usize, classes: &[u8], work: &mut [u32])
     let table = class_builtin::table();
     let mut hints = [0; HINTS];
     let mut k = 0;
-    let mut i = 0;
-    while i < text.len() {
-        let point = text[i];
-        let letter = letter_of(point, &mut hints, &table, classes);
-        if point == CAPITAL_I_WITH_DOT {
+    for point in text {
+        let letter = letter_of(*point, &mut hints, &table, classes);
+        if *point == CAPITAL_I_WITH_DOT {
             put_two(work, letters, k, letter);
             k += 2;
-            i += 1;
         } else {
             put_slot(work, letters, k, letter.range, letter.lower);
             k += 1;
-            i += 1;
         }
     }
 }
@@ -190,18 +179,14 @@ pub fn clear(work: &mut [u32], n: usize)
     requires { n ≤ length work.old }
     ensures { work.new ≡ put work.old 0 (replicate n 0) }
 {
-    let mut k = 0;
-    while k < n {
-        work[k] = 0;
-        k += 1;
-    }
+    work[..n].fill(0);
 }
 
 fn is_accentuated(point: u32, hints: &mut [usize; HINTS], table: &Table, classes: &[u8]) -> bool
     requires { (good_table classes.now ≡ true) × (table.now ≡ packed_words) }
     ensures { result ≡ is_accentuated (class_of classes.now point) }
 {
-    let Found::At(c) = look_up_near(point, hints, table, classes) else {
+    let Some(c) = look_up_near(point, hints, table, classes) else {
         return false;
     };
     is_set(c.flags, ACCENTUATED)
@@ -214,12 +199,10 @@ pub fn some_accented(letters: &[u32], classes: &[u8]) -> bool
 {
     let table = class_builtin::table();
     let mut hints = [0; HINTS];
-    let mut i = 0;
-    while i < letters.len() {
-        if is_accentuated(letters[i], &mut hints, &table, classes) {
+    for letter in letters {
+        if is_accentuated(*letter, &mut hints, &table, classes) {
             return true;
         }
-        i += 1;
     }
     false
 }

@@ -3,11 +3,9 @@
 -- "Both enter its layer" of U+0130's two (02 [4]).
 -- Not here: which layer a taken character joins (crate layers); what is said of a character that has no class, which is refused (Unclassed).
 -- Assumes nothing.
-use Rattle.std.specs.Prelude.{ℕ, Bool, cond, not, ◌&&◌, List, [], ◌∷◌, ◌++◌, eqb}
+use Rattle.std.specs.Prelude.{ℕ, Bool, cond, not, ◌&&◌, List, [], ◌∷◌, ◌++◌, eqb, Option, Some, None}
 use Rattle.base.specs.Flags.{has, CHAR_ALPHABETIC}
 use Rattle.classes.specs.declared.Class.{Class}
-use Rattle.classes.specs.declared.Found.{Found}
-use Rattle.classes.specs.declared.Found.TheVariants.{At, Nothing}
 use Rattle.classes.specs.Lookup.{class_of}
 use Rattle.cd_layers.specs.Layers.{Taken}
 
@@ -27,9 +25,9 @@ unfoldable pub lowered : Class → List ℕ
 lowered c = c.lower ∷ cond (eqb c.point CAPITAL_I_WITH_DOT) (DOT_ABOVE ∷ []) []
 
 -- what one character gives
-unfoldable pub taken_letters : Found → List Taken
-taken_letters (At c) = cond (is_taken c) (record { range = c.range; letters = lowered c } ∷ []) []
-taken_letters Nothing = []
+unfoldable pub taken_letters : Option Class → List Taken
+taken_letters (Some c) = cond (is_taken c) (record { range = c.range; letters = lowered c } ∷ []) []
+taken_letters None = []
 
 -- the taken characters of a text, in text order
 unfoldable pub taken_chars : List ℕ → List ℕ → List Taken

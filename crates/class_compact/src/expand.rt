@@ -39,16 +39,14 @@ pub fn unpack_into(records: &[u8], letters: &[u8], out: &mut [u8]) -> bool
     ensures out_after { out.new ≡ put out.old 0 (unpacked records.now letters.now) }
 {
     let n = records.len() / COMPACT_RECORD;
-    let mut i = 0;
     let mut seen = 0;
     let mut ordered = true;
-    while i < n {
+    for i in 0..n {
         let place = place_of(records, i);
         ordered = ordered & (place <= seen + 1);
         seen = pick(seen < place, place, seen);
         let record = expanded(records, letters, i);
         lay(&record, out, i * CLASS_RECORD);
-        i += 1;
     }
     ordered & (seen as usize == letters.len() / LETTERS_RECORD)
 }

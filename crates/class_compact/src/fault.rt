@@ -8,8 +8,7 @@ ghost use Rattle.class_compact_meaning.specs.Inner.Sound as inner;
 use crate::form::{base_at, find_letters, lower_at, place_of};
 use crate::sound::is_sound;
 use crate::{COMPACT_RECORD, LETTERS_RECORD};
-use base::refusals::BAD_CLASSES;
-use base::{Cause, refuse};
+use base::{Cause, Refusal, refuse};
 
 // The first record whose letters are missing, or the number of records.
 fn first_unlettered(records: &[u8], letters: &[u8]) -> usize
@@ -17,14 +16,12 @@ fn first_unlettered(records: &[u8], letters: &[u8]) -> usize
 {
     let n = records.len() / COMPACT_RECORD;
     let m = letters.len() / LETTERS_RECORD;
-    let mut i = 0;
-    while i < n {
+    for i in 0..n {
         if m < place_of(records, i) as usize {
             return i;
         }
-        i += 1;
     }
-    i
+    n
 }
 
 // The first record that uses the letters at a place, or the number of records.
@@ -32,14 +29,12 @@ fn first_use(records: &[u8], place: usize) -> usize
     ensures { inner.Use records.now place result }
 {
     let n = records.len() / COMPACT_RECORD;
-    let mut i = 0;
-    while i < n {
+    for i in 0..n {
         if place_of(records, i) as usize == place {
             return i;
         }
-        i += 1;
     }
-    i
+    n
 }
 
 // The first bad record, or the number of records.
@@ -80,43 +75,46 @@ fn first_bad_letters(records: &[u8], letters: &[u8]) -> usize
     ensures { inner.FirstBad records.now letters.now result }
 {
     let m = letters.len() / LETTERS_RECORD;
-    let mut k = 0;
-    while k < m {
+    for k in 0..m {
         if bad_letters(records, letters, k) {
             return k;
         }
-        k += 1;
     }
-    k
+    m
 }
 
 // Why a compact table is not good, if it is not; `table` is its expansion.
-fn fault(records: &[u8], letters: &[u8], table: &[u8]) -> Cause
+fn fault(records: &[u8], letters: &[u8], table: &[u8]) -> Result<(), Refusal>
     requires { Filled records.now letters.now table.now }
     ensures { result ≡ checks.bad_compact records.now letters.now }
 {
     let bad = first_bad_record(records, letters, table);
     if bad < records.len() / COMPACT_RECORD {
-        return refuse(BAD_CLASSES, bad as u32);
+        return refuse(Cause::BadClasses, bad as u32);
     }
     if letters.len() % LETTERS_RECORD != 0 {
-        return refuse(BAD_CLASSES, 0);
+        return refuse(Cause::BadClasses, 0);
     }
     let k = first_bad_letters(records, letters);
     if k < letters.len() / LETTERS_RECORD {
-        return refuse(BAD_CLASSES, k as u32);
+        return refuse(Cause::BadClasses, k as u32);
     }
-    Cause::Allowed
+    Ok(())
 }
 
 // The same, but for what the check of the expansion finds: a caller that has the expansion checked need not have it checked twice. `ordered` is what
 // `unpack_into` answered.
-pub fn beyond_table(records: &[u8], letters: &[u8], table: &[u8], ordered: bool) -> Cause
+pub fn beyond_table(
+    records: &[u8],
+    letters: &[u8],
+    table: &[u8],
+    ordered: bool,
+) -> Result<(), Refusal>
     requires { inner.Expanded records.now letters.now table.now ordered }
     ensures { result ≡ inner.beyond_table records.now letters.now }
 {
     if is_sound(records, letters, ordered) {
-        return Cause::Allowed;
+        return Ok(());
     }
     fault(records, letters, table)
 }

@@ -45,14 +45,12 @@ pub fn find_letters(letters: &[u8], end: usize, base: u32, lower: u32) -> usize
     requires { end ≤ form.letters_in letters.now }
     ensures { result ≡ first (letters_are letters.now base lower) end }
 {
-    let mut k = 0;
-    while k < end {
+    for k in 0..end {
         if (base_at(letters, k) == base) & (lower_at(letters, k) == lower) {
             return k;
         }
-        k += 1;
     }
-    k
+    end
 }
 
 // Lays bytes into out from a place on.
@@ -60,9 +58,5 @@ pub fn lay(bytes: &[u8], out: &mut [u8], at: usize)
     requires { at + length bytes.now ≤ length out.old }
     ensures { out.new ≡ put out.old at bytes.now }
 {
-    let mut k = 0;
-    while k < bytes.len() {
-        out[at + k] = bytes[k];
-        k += 1;
-    }
+    out[at..at + bytes.len()].copy_from_slice(bytes);
 }

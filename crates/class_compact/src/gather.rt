@@ -91,10 +91,8 @@ pub fn pack_into(classes: &[u8], packed: &mut [u8], used: &mut [u8]) -> usize
     let n = classes.len() / CLASS_RECORD;
     let mut links = [0u16; LINKS];
     let mut count = 0;
-    let mut i = 0;
-    while i < n {
+    for i in 0..n {
         count = gather_record(classes, i, packed, used, count, &mut links);
-        i += 1;
     }
     count
 }

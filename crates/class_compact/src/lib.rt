@@ -1,8 +1,7 @@
 // The compact class table: records of 16 bytes, and the letters that they share in a list of their own; packed, unpacked and checked.
 #![tactic(auto)]
 
-ghost use Rattle.std.specs.Prelude.{◌≡◌, true, ◌≤◌, length};
-ghost use Rattle.base.specs.declared.Cause.TheVariants.{Allowed};
+ghost use Rattle.std.specs.Prelude.{◌≡◌, true, ◌≤◌, length, Ok};
 ghost use Rattle.base.specs.Causes.{refused_at};
 ghost use Rattle.class_records.specs.Records.{good_table};
 ghost use Rattle.class_compact_meaning.specs.Check.{bad_compact};
@@ -12,9 +11,8 @@ ghost use Rattle.class_compact_meaning.specs.Inner.Form.{Sized, wrong_list};
 ghost use Rattle.class_compact_meaning.specs.Inner.Sound.{Expanded};
 
 use base::limits::{CLASS_RECORD, MOST_CLASSES};
-use base::refusals::{BAD_CLASSES, NO_ROOM};
-use base::{Cause, Counted, Refusal, not_counted, refuse};
-use class_compact_meaning::{Packed, Packing};
+use base::{Cause, Refusal, refuse};
+use class_compact_meaning::Packed;
 use expand::unpack_into;
 use fault::beyond_table;
 use form::lay;
@@ -52,18 +50,16 @@ pub fn wrong_list(records: &[u8]) -> bool
 }
 
 // Why a compact table is not good, if it is not, with its expansion lent.
-fn bad_filled(records: &[u8], letters: &[u8], table: &[u8], ordered: bool) -> Cause
+fn bad_filled(records: &[u8], letters: &[u8], table: &[u8], ordered: bool) -> Result<(), Refusal>
     requires { Expanded records.now letters.now table.now ordered }
     ensures { result ≡ bad_compact records.now letters.now }
 {
-    match beyond_table(records, letters, table, ordered) {
-        Cause::Refused(why) => Cause::Refused(why),
-        Cause::Allowed => classes::bad_classes(table),
-    }
+    beyond_table(records, letters, table, ordered)?;
+    classes::bad_classes(table)
 }
 
 // The same through a room of its own.
-fn bad_expanded(records: &[u8], letters: &[u8]) -> Cause
+fn bad_expanded(records: &[u8], letters: &[u8]) -> Result<(), Refusal>
     requires { Sized records.now }
     ensures { result ≡ bad_compact records.now letters.now }
 {
@@ -78,53 +74,41 @@ fn bad_expanded(records: &[u8], letters: &[u8]) -> Cause
 }
 
 // Why a compact table is not good, if it is not: length, number and the first bad record of its class list, then length and first bad letters of the other.
-pub fn bad_compact(records: &[u8], letters: &[u8]) -> Cause
+pub fn bad_compact(records: &[u8], letters: &[u8]) -> Result<(), Refusal>
     ensures { result ≡ bad_compact records.now letters.now }
 {
     if wrong_list(records) {
-        return refuse(BAD_CLASSES, 0);
+        return refuse(Cause::BadClasses, 0);
     }
     bad_expanded(records, letters)
 }
 
 // The number of records of a compact table, or why it is not good.
-pub fn check_compact(records: &[u8], letters: &[u8]) -> Counted
+pub fn check_compact(records: &[u8], letters: &[u8]) -> Result<u32, Refusal>
     ensures { result ≡ calls.check_answer records.now letters.now }
 {
-    match bad_compact(records, letters) {
-        Cause::Refused(why) => Counted::Refused(why),
-        Cause::Allowed => Counted::Count((records.len() / COMPACT_RECORD) as u32),
-    }
+    bad_compact(records, letters)?;
+    Ok((records.len() / COMPACT_RECORD) as u32)
 }
 
 // The records of 24 bytes that a compact table stands for, in the first places of out; the rest of out stays, and all of it in a refusal.
-pub fn unpack(records: &[u8], letters: &[u8], out: &mut [u8]) -> Counted
+pub fn unpack(records: &[u8], letters: &[u8], out: &mut [u8]) -> Result<u32, Refusal>
     ensures value { result ≡ calls.unpack_answer records.now letters.now (length out.old) }
     ensures out_after { out.new ≡ calls.unpack_after records.now letters.now out.old }
 {
-    match bad_compact(records, letters) {
-        Cause::Refused(why) => Counted::Refused(why),
-        Cause::Allowed => {
-            let n = records.len() / COMPACT_RECORD;
-            if out.len() < n * CLASS_RECORD {
-                return not_counted(NO_ROOM, 0);
-            }
-            unpack_into(records, letters, out);
-            Counted::Count(n as u32)
-        }
+    bad_compact(records, letters)?;
+    let n = records.len() / COMPACT_RECORD;
+    if out.len() < n * CLASS_RECORD {
+        return refuse(Cause::NoRoom, 0);
     }
+    unpack_into(records, letters, out);
+    Ok(n as u32)
 }
 
-fn packing_refused(number: u32, place: u32) -> Packing
-    ensures { result ≡ calls.packed_unless (refused_at number place) 0 0 }
+fn packing_done(records: u32, letters: u32) -> Result<Packed, Refusal>
+    ensures { result ≡ calls.packed_unless (Ok tt) records letters }
 {
-    Packing::Refused(Refusal { number, place })
-}
-
-fn packing_done(records: u32, letters: u32) -> Packing
-    ensures { result ≡ calls.packed_unless Allowed records letters }
-{
-    Packing::Packed(Packed { records, letters })
+    Ok(Packed { records, letters })
 }
 
 // Puts a packed table into two outputs, where they have room.
@@ -134,14 +118,14 @@ fn put_out(
     used: &[u8],
     records: &mut [u8],
     letters: &mut [u8],
-) -> Packing
+) -> Result<Packed, Refusal>
     requires { (good_table classes.now ≡ true) × (packed.now ≡ packed_records classes.now) × (used.now ≡ packed_letters classes.now) }
     ensures value { result ≡ calls.pack_answer classes.now (length records.old) (length letters.old) }
     ensures records_after { records.new ≡ calls.records_after classes.now records.old (length letters.old) }
     ensures letters_after { letters.new ≡ calls.letters_after classes.now (length records.old) letters.old }
 {
     if (records.len() < packed.len()) | (letters.len() < used.len()) {
-        return packing_refused(NO_ROOM, 0);
+        return refuse(Cause::NoRoom, 0);
     }
     lay(packed, records, 0);
     lay(used, letters, 0);
@@ -152,7 +136,7 @@ fn put_out(
 }
 
 // A good table packed. It is gathered in rooms of its own, since only then it is known how many letters there are.
-fn pack_good(classes: &[u8], records: &mut [u8], letters: &mut [u8]) -> Packing
+fn pack_good(classes: &[u8], records: &mut [u8], letters: &mut [u8]) -> Result<Packed, Refusal>
     requires { good_table classes.now ≡ true }
     ensures value { result ≡ calls.pack_answer classes.now (length records.old) (length letters.old) }
     ensures records_after { records.new ≡ calls.records_after classes.now records.old (length letters.old) }
@@ -172,13 +156,11 @@ fn pack_good(classes: &[u8], records: &mut [u8], letters: &mut [u8]) -> Packing
 }
 
 // A class table in the compact form, its records and its letters in the first places of two outputs; the rest of them stays, and all of it in a refusal.
-pub fn pack(classes: &[u8], records: &mut [u8], letters: &mut [u8]) -> Packing
+pub fn pack(classes: &[u8], records: &mut [u8], letters: &mut [u8]) -> Result<Packed, Refusal>
     ensures value { result ≡ calls.pack_answer classes.now (length records.old) (length letters.old) }
     ensures records_after { records.new ≡ calls.records_after classes.now records.old (length letters.old) }
     ensures letters_after { letters.new ≡ calls.letters_after classes.now (length records.old) letters.old }
 {
-    match classes::bad_classes(classes) {
-        Cause::Refused(why) => Packing::Refused(why),
-        Cause::Allowed => pack_good(classes, records, letters),
-    }
+    classes::bad_classes(classes)?;
+    pack_good(classes, records, letters)
 }

@@ -36,6 +36,7 @@ pub fn slot_for(letters: &[u8], count: usize, base: u32, lower: u32, links: &[u1
 {
     let mut slot = mark_for(base, lower);
     let mut bits = base as u64 * WORD + lower as u64;
+    // Stays a while: a turn goes to the slot that the place found here names, and an empty one ends the walk.
     while links[slot] != 0 {
         let place = links[slot] as usize;
         let k = place - 1;

@@ -35,12 +35,10 @@ fn all_own(letters: &[u8]) -> bool
 {
     let mut links = [0u16; LINKS];
     let m = letters.len() / LETTERS_RECORD;
-    let mut k = 0;
-    while k < m {
+    for k in 0..m {
         if !is_own(letters, k, &mut links) {
             return false;
         }
-        k += 1;
     }
     true
 }

@@ -3,12 +3,12 @@
 -- predecessor)". As before: a length or a number that is not allowed at 0, then the first bad one. Of a repeat the later is bad. The laws that lead
 -- from either form to the other and back stand in proofs/Laws/Back.
 -- Assumes nothing.
-use Rattle.std.specs.Prelude.{ℕ, ◌+◌, ◌%◌, List, [], ◌∷◌, Bool, not, ◌&&◌, ◌||◌, length, eqb, ltb}
-use Rattle.base.specs.declared.Cause.{Cause}
+use Rattle.std.specs.Prelude.{ℕ, ◌+◌, ◌%◌, List, [], ◌∷◌, Bool, not, ◌&&◌, ◌||◌, length, eqb, ltb, Result, ⊤}
+use Rattle.base.specs.declared.Refusal.{Refusal}
 use Rattle.base.specs.Causes.{given, first_of}
 use Rattle.base.specs.First.{first}
 use Rattle.base.specs.Limits.{MOST_CLASSES}
-use Rattle.base.specs.Refusals.{BAD_CLASSES}
+use Rattle.base.specs.declared.refusals.Cause.TheVariants.{BadClasses}
 use Rattle.class_records.specs.Records.{good_at}
 use Rattle.class_compact_meaning.specs.Form.{COMPACT_RECORD, LETTERS_RECORD, compact_records, letters_in, place_at, base_at, lower_at}
 use Rattle.class_compact_meaning.specs.Unpacked.{unpacked}
@@ -57,23 +57,23 @@ unfoldable pub first_bad_letters : List ℕ → List ℕ → ℕ
 first_bad_letters c l = first (bad_letters c l) (letters_in l)
 
 -- the class list's length, its number, and a record
-unfoldable pub bad_compact_length : List ℕ → Cause
-bad_compact_length c = given (not (eqb (length c % COMPACT_RECORD) 0)) BAD_CLASSES 0
+unfoldable pub bad_compact_length : List ℕ → Result ⊤ Refusal
+bad_compact_length c = given (not (eqb (length c % COMPACT_RECORD) 0)) BadClasses 0
 
-unfoldable pub bad_compact_number : List ℕ → Cause
-bad_compact_number c = given (ltb MOST_CLASSES (compact_records c)) BAD_CLASSES 0
+unfoldable pub bad_compact_number : List ℕ → Result ⊤ Refusal
+bad_compact_number c = given (ltb MOST_CLASSES (compact_records c)) BadClasses 0
 
-unfoldable pub bad_compact_record : List ℕ → List ℕ → Cause
-bad_compact_record c l = given (ltb (first_bad_record c l) (compact_records c)) BAD_CLASSES (first_bad_record c l)
+unfoldable pub bad_compact_record : List ℕ → List ℕ → Result ⊤ Refusal
+bad_compact_record c l = given (ltb (first_bad_record c l) (compact_records c)) BadClasses (first_bad_record c l)
 
 -- the length of the list of letters, and letters of it
-unfoldable pub bad_letters_length : List ℕ → Cause
-bad_letters_length l = given (not (eqb (length l % LETTERS_RECORD) 0)) BAD_CLASSES 0
+unfoldable pub bad_letters_length : List ℕ → Result ⊤ Refusal
+bad_letters_length l = given (not (eqb (length l % LETTERS_RECORD) 0)) BadClasses 0
 
-unfoldable pub bad_letters_record : List ℕ → List ℕ → Cause
-bad_letters_record c l = given (ltb (first_bad_letters c l) (letters_in l)) BAD_CLASSES (first_bad_letters c l)
+unfoldable pub bad_letters_record : List ℕ → List ℕ → Result ⊤ Refusal
+bad_letters_record c l = given (ltb (first_bad_letters c l) (letters_in l)) BadClasses (first_bad_letters c l)
 
 -- 5
-unfoldable pub bad_compact : List ℕ → List ℕ → Cause
+unfoldable pub bad_compact : List ℕ → List ℕ → Result ⊤ Refusal
 bad_compact c l =
     first_of (bad_compact_length c ∷ bad_compact_number c ∷ bad_compact_record c l ∷ bad_letters_length l ∷ bad_letters_record c l ∷ [])

@@ -10,10 +10,3 @@ pub struct Packed {
     pub records: u32,
     pub letters: u32,
 }
-
-// What packing answers.
-#[derive(Clone, Copy)]
-pub enum Packing {
-    Packed(Packed),
-    Refused(Refusal),
-}

@@ -88,15 +88,12 @@ fn span_after(end: u32, r: Record) -> bool
 pub fn none_bad(t: &[u8]) -> bool
     ensures { result ≡ eqb (first_bad t.now) (records t.now) }
 {
-    let n = t.len() / CLASS_RECORD;
-    let mut i = 0;
     let mut end = BUILTIN_END - 1;
     let mut good = true;
-    while i < n {
+    for i in 0..t.len() / CLASS_RECORD {
         let r = record_at(t, i);
         good = good & (span_after(end, r) & fields_good(r));
         end = r.last;
-        i += 1;
     }
     good & (end <= LAST_POINT)
 }
@@ -106,15 +103,13 @@ pub fn first_bad(t: &[u8]) -> usize
     ensures { result ≡ first_bad t.now }
 {
     let n = t.len() / CLASS_RECORD;
-    let mut i = 0;
     let mut end = BUILTIN_END - 1;
-    while i < n {
+    for i in 0..n {
         let r = record_at(t, i);
         if !(span_after(end, r) & (r.last <= LAST_POINT) & fields_good(r)) {
             return i;
         }
         end = r.last;
-        i += 1;
     }
-    i
+    n
 }

@@ -37,6 +37,7 @@ fn first_ending(t: &[u8], p: u32) -> usize
 {
     let mut low = 0;
     let mut size = t.len() / CLASS_RECORD;
+    // Stays a while: a search by halving, whose step is half of what is left.
     while 1 < size {
         let half = size / 2;
         if last_of(t, low + half - 1) < p {

@@ -1,14 +1,12 @@
 -- The class of a code point (01, "Tables"): the built-in table's below U+0250; past it that of the lent record that holds it, if one does.
 -- What is said here of a lent table means something only where the table is good (crate records).
 -- Assumes nothing.
-use Rattle.std.specs.Prelude.{ℕ, List, Bool, true, false, cond, ltb, eqb}
+use Rattle.std.specs.Prelude.{ℕ, List, Bool, true, false, cond, ltb, eqb, Option, Some, None}
 use Rattle.base.specs.Limits.{BUILTIN_END}
 use Rattle.class_builtin.specs.Table.{entry_at}
 use Rattle.class_records.specs.Records.{records, record_at, holder}
 use Rattle.class_records.specs.declared.Record.{Record}
 use Rattle.classes.specs.declared.Class.{Class}
-use Rattle.classes.specs.declared.Found.{Found}
-use Rattle.classes.specs.declared.Found.TheVariants.{At, Nothing}
 
 -- base and lower: "0 means the character itself"
 abbrev pub or_self : ℕ → ℕ → ℕ
@@ -31,13 +29,13 @@ record_class r p =
     record { point = p; flags = r.flags; range = r.range; base = or_self r.base p; lower = or_self r.lower p }
 
 -- the class that the lent table gives: that of the record that holds the code point
-unfoldable pub lent_class : List ℕ → ℕ → Found
-lent_class t p = cond (ltb (holder t p) (records t)) (At (record_class (record_at t (holder t p)) p)) Nothing
+unfoldable pub lent_class : List ℕ → ℕ → Option Class
+lent_class t p = cond (ltb (holder t p) (records t)) (Some (record_class (record_at t (holder t p)) p)) None
 
-unfoldable pub class_of : List ℕ → ℕ → Found
-class_of t p = cond (ltb p BUILTIN_END) (At (builtin_class p)) (lent_class t p)
+unfoldable pub class_of : List ℕ → ℕ → Option Class
+class_of t p = cond (ltb p BUILTIN_END) (Some (builtin_class p)) (lent_class t p)
 
 -- no class was found
-abbrev pub missing : Found → Bool
-missing (At c) = false
-missing Nothing = true
+abbrev pub missing : Option Class → Bool
+missing (Some c) = false
+missing None = true

@@ -10,8 +10,7 @@ ghost use Rattle.classes.specs.Check.{bad_classes, checked};
 ghost use Rattle.classes.specs.Pairs.{bad_pairs, suspicious};
 
 use base::limits::{BUILTIN_END, CLASS_RECORD, MOST_CLASSES, PAIR_BYTES, RANGES};
-use base::refusals::{BAD_CLASSES, BAD_PAIRS};
-use base::{Cause, Counted, refuse};
+use base::{Cause, Refusal, refuse};
 use class_builtin::Table;
 
 // A code point and what the tables say of it. `base` is the letter without accent and `lower` the lower-case letter, the character itself
@@ -27,13 +26,6 @@ pub struct Class {
 
 // How many hints a lookup is lent: the letters of an alphabet have a place each, and kana one beside the kanji between them.
 pub const HINTS: usize = 1024;
-
-// What the lookup finds.
-#[derive(Clone, Copy)]
-pub enum Found {
-    At(Class),
-    Nothing,
-}
 
 // 0 in a table means the character itself.
 fn or_self(n: u32, point: u32) -> u32
@@ -57,13 +49,13 @@ pub fn builtin_class(point: u32, table: &Table) -> Class
 }
 
 // The class that the lent record `at` gives a code point that it holds; nothing where `at` is the number of records, since none does.
-pub fn class_in(point: u32, at: usize, classes: &[u8]) -> Found
+pub fn class_in(point: u32, at: usize, classes: &[u8]) -> Option<Class>
     requires { at ≡ holder classes.now point }
     ensures { result ≡ lent_class classes.now point }
 {
     if at < classes.len() / CLASS_RECORD {
         let r = class_records::record_at(classes, at);
-        return Found::At(Class {
+        return Some(Class {
             point,
             flags: r.flags,
             range: r.range as u32,
@@ -71,11 +63,11 @@ pub fn class_in(point: u32, at: usize, classes: &[u8]) -> Found
             lower: or_self(r.lower, point),
         });
     }
-    Found::Nothing
+    None
 }
 
 // The class that the lent records give a code point.
-fn lent_class(point: u32, classes: &[u8]) -> Found
+fn lent_class(point: u32, classes: &[u8]) -> Option<Class>
     requires { good_table classes.now ≡ true }
     ensures { result ≡ lent_class classes.now point }
 {
@@ -85,12 +77,12 @@ fn lent_class(point: u32, classes: &[u8]) -> Found
 // The class of a code point: below BUILTIN_END the built-in table's, past it that of the lent record that holds it. The built-in table is lent
 // too, so that a caller's loop makes it once (`class_builtin::table`); and the test of the code point stands here, apart from the search, so that such a
 // loop has it in line.
-pub fn look_up_in(point: u32, table: &Table, classes: &[u8]) -> Found
+pub fn look_up_in(point: u32, table: &Table, classes: &[u8]) -> Option<Class>
     requires { (good_table classes.now ≡ true) × (table.now ≡ packed_words) }
     ensures { result ≡ class_of classes.now point }
 {
     if point < BUILTIN_END {
-        return Found::At(builtin_class(point, table));
+        return Some(builtin_class(point, table));
     }
     lent_class(point, classes)
 }
@@ -108,50 +100,53 @@ pub fn held_near(point: u32, hints: &mut [usize; HINTS], classes: &[u8]) -> usiz
 }
 
 // The class of a code point, found by hints.
-pub fn look_up_near(point: u32, hints: &mut [usize; HINTS], table: &Table, classes: &[u8]) -> Found
+pub fn look_up_near(
+    point: u32,
+    hints: &mut [usize; HINTS],
+    table: &Table,
+    classes: &[u8],
+) -> Option<Class>
     requires { (good_table classes.now ≡ true) × (table.now ≡ packed_words) }
     ensures { result ≡ class_of classes.now point }
 {
     if BUILTIN_END <= point {
         return class_in(point, held_near(point, hints, classes), classes);
     }
-    Found::At(builtin_class(point, table))
+    Some(builtin_class(point, table))
 }
 
 // Why a class table is not good, if it is not: a length or a number of records that is not allowed, at 0, then the first bad record.
-pub fn bad_classes(classes: &[u8]) -> Cause
+pub fn bad_classes(classes: &[u8]) -> Result<(), Refusal>
     ensures { result ≡ bad_classes classes.now }
 {
     if classes.len() % CLASS_RECORD != 0 {
-        return refuse(BAD_CLASSES, 0);
+        return refuse(Cause::BadClasses, 0);
     }
     if classes.len() / CLASS_RECORD > MOST_CLASSES {
-        return refuse(BAD_CLASSES, 0);
+        return refuse(Cause::BadClasses, 0);
     }
     if !class_records::none_bad(classes) {
-        return refuse(BAD_CLASSES, class_records::first_bad(classes) as u32);
+        return refuse(Cause::BadClasses, class_records::first_bad(classes) as u32);
     }
-    Cause::Allowed
+    Ok(())
 }
 
 // The number of records of a class table, or why it is not good.
-pub fn check_classes(classes: &[u8]) -> Counted
+pub fn check_classes(classes: &[u8]) -> Result<u32, Refusal>
     ensures { result ≡ checked classes.now }
 {
-    match bad_classes(classes) {
-        Cause::Refused(why) => Counted::Refused(why),
-        Cause::Allowed => Counted::Count((classes.len() / CLASS_RECORD) as u32),
-    }
+    bad_classes(classes)?;
+    Ok((classes.len() / CLASS_RECORD) as u32)
 }
 
 // Why a pair table is refused, if it is: it has not its size.
-pub fn bad_pairs(pairs: &[u8]) -> Cause
+pub fn bad_pairs(pairs: &[u8]) -> Result<(), Refusal>
     ensures { result ≡ bad_pairs pairs.now }
 {
     if pairs.len() != PAIR_BYTES {
-        return refuse(BAD_PAIRS, 0);
+        return refuse(Cause::BadPairs, 0);
     }
-    Cause::Allowed
+    Ok(())
 }
 
 // Whether range b after range a is suspicious.

@@ -1,6 +1,4 @@
-pub mod Chosen
-pub mod Compact
+pub mod Accepted
 pub mod Export
 pub mod Host
 pub mod Matches
-pub mod Why

@@ -2,12 +2,13 @@
 -- and a refusal's number and place. No slice crosses to a host; the part begins where the text begins. Where either text is refused the part is
 -- empty. Not here: the verdict and the part (crate md_chooser).
 -- Assumes nothing.
-use Rattle.std.specs.Prelude.{ℕ}
-use Rattle.md_chooser_meaning.specs.declared.Judged.{Judged}
+use Rattle.std.specs.Prelude.{ℕ, Result}
+use Rattle.md_chooser_meaning.specs.declared.Side.{Side}
+use Rattle.md_chooser_meaning.specs.declared.Unjudged.{Unjudged}
 use Rattle.md_chooser_meaning.specs.Choose.{values}
 use Rattle.host.specs.declared.HostChosen.{HostChosen}
 
-unfoldable pub host_chosen : Judged → ℕ → HostChosen
+unfoldable pub host_chosen : Result Side Unjudged → ℕ → HostChosen
 host_chosen a length =
     record {
       taken = (values a).taken;

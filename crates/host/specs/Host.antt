@@ -2,16 +2,16 @@
 -- values that 01 gives an answer, as `values` of each enum says, in the order of the struct's fields. A truth is 1 or 0. How a struct is laid
 -- out in memory and passed is the C ABI's, and is not said here.
 -- Assumes nothing.
-use Rattle.base.specs.declared.Counted.{Counted}
+use Rattle.std.specs.Prelude.{ℕ, Result}
+use Rattle.base.specs.declared.Refusal.{Refusal}
 use Rattle.base.specs.Counted.{values}
 use Rattle.base.specs.Numbers.{bump}
 use Rattle.ratio.specs.declared.Shown.{Shown}
 use Rattle.ratio.specs.declared.EightShown.{EightShown}
-use Rattle.md_meaning.specs.declared.Scored.{Scored}
 use Rattle.md_meaning.specs.Values.{Values as ScoreValues, values as score_values}
-use Rattle.md_chooser_meaning.specs.declared.Judged.{Judged}
+use Rattle.md_chooser_meaning.specs.declared.Side.{Side}
+use Rattle.md_chooser_meaning.specs.declared.Unjudged.{Unjudged}
 use Rattle.md_chooser_meaning.specs.Choose.{values as verdict_values}
-use Rattle.ring_meaning.specs.declared.Ringed.{Ringed}
 use Rattle.ring_meaning.specs.Calls.{values as ring_values}
 use Rattle.host.specs.declared.HostCounts.{HostCounts}
 use Rattle.host.specs.declared.HostRead.{HostRead}
@@ -19,8 +19,10 @@ use Rattle.host.specs.declared.HostRing.{HostRing}
 use Rattle.host.specs.declared.HostScore.{HostScore}
 use Rattle.host.specs.declared.HostShown.{HostShown}
 use Rattle.host.specs.declared.HostVerdict.{HostVerdict}
+use Rattle.md_meaning.specs.declared.Score.{Score}
+use Rattle.ring_meaning.specs.declared.Kept.{Kept}
 
-unfoldable pub host_counted : Counted → HostRead
+unfoldable pub host_counted : Result ℕ Refusal → HostRead
 host_counted a = record { number = (values a).number; place = (values a).place; count = (values a).count }
 
 -- what is shown of one detector, and of the eight (02 [7])
@@ -52,10 +54,10 @@ flat_score v =
       counts = host_counts v.counts;
     }
 
-unfoldable pub host_score : Scored → HostScore
+unfoldable pub host_score : Result Score Refusal → HostScore
 host_score a = flat_score (score_values a)
 
-unfoldable pub host_verdict : Judged → HostVerdict
+unfoldable pub host_verdict : Result Side Unjudged → HostVerdict
 host_verdict a =
     record {
       taken = (verdict_values a).taken;
@@ -64,7 +66,7 @@ host_verdict a =
       place = (verdict_values a).place;
     }
 
-unfoldable pub host_ring : Ringed → HostRing
+unfoldable pub host_ring : Result Kept Refusal → HostRing
 host_ring a =
     record {
       number = (ring_values a).number;

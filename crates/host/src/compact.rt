@@ -6,29 +6,7 @@ ghost use Rattle.md_compact.specs.Lines as lines;
 ghost use Rattle.host.specs.Compact.{host_packed};
 ghost use Rattle.host.specs.Host.{host_counted, host_score};
 
-use crate::flat::{flat_counted, flat_scored};
 use crate::{HostPacked, HostRead, HostScore};
-use base::refusals::ACCEPTED;
-use class_compact_meaning::Packing;
-
-fn flat_packed(packing: Packing) -> HostPacked
-    ensures { result ≡ host_packed packing }
-{
-    match packing {
-        Packing::Refused(r) => HostPacked {
-            number: r.number,
-            place: r.place,
-            records: 0,
-            letters: 0,
-        },
-        Packing::Packed(packed) => HostPacked {
-            number: ACCEPTED,
-            place: 0,
-            records: packed.records,
-            letters: packed.letters,
-        },
-    }
-}
 
 // A class table in the compact form: its records of 16 bytes and its letters of 8 into the first places of two outputs.
 #[unsafe(no_mangle)]
@@ -41,7 +19,7 @@ pub extern "C" fn drasumira_pack(
     ensures records_after { records.new ≡ calls.records_after classes.now records.old (length letters.old) }
     ensures letters_after { letters.new ≡ calls.letters_after classes.now (length records.old) letters.old }
 {
-    flat_packed(class_compact::pack(classes, records, letters))
+    class_compact::pack(classes, records, letters).into()
 }
 
 // The class table that a compact one stands for, into the first places of out; the count is of records of 24 bytes.
@@ -50,7 +28,7 @@ pub extern "C" fn drasumira_unpack(records: &[u8], letters: &[u8], out: &mut [u8
     ensures value { result ≡ host_counted (calls.unpack_answer records.now letters.now (length out.old)) }
     ensures out_after { out.new ≡ calls.unpack_after records.now letters.now out.old }
 {
-    flat_counted(class_compact::unpack(records, letters, out))
+    class_compact::unpack(records, letters, out).into()
 }
 
 // The mess ratio of a text, with a compact class table.
@@ -64,7 +42,7 @@ pub extern "C" fn drasumira_score_compact(
 ) -> HostScore
     ensures { result ≡ host_score (mess_ratio_compact records.now letters.now pairs.now text.now threshold) }
 {
-    flat_scored(md_compact::mess_ratio_compact(text, threshold, records, letters, pairs))
+    md_compact::mess_ratio_compact(text, threshold, records, letters, pairs).into()
 }
 
 // The same at the default threshold.
@@ -77,7 +55,7 @@ pub extern "C" fn drasumira_score_compact_default(
 ) -> HostScore
     ensures { result ≡ host_score (mess_ratio_compact_default records.now letters.now pairs.now text.now) }
 {
-    flat_scored(md_compact::mess_ratio_compact_default(text, records, letters, pairs))
+    md_compact::mess_ratio_compact_default(text, records, letters, pairs).into()
 }
 
 // The mess ratio of the text that UTF-8 bytes are, with a compact class table.
@@ -91,9 +69,7 @@ pub extern "C" fn drasumira_score_utf8_compact(
 ) -> HostScore
     ensures { result ≡ host_score (mess_ratio_utf8_compact records.now letters.now pairs.now text.now threshold) }
 {
-    flat_scored(md_compact::utf8_bytes::mess_ratio_utf8_compact(
-        text, threshold, records, letters, pairs,
-    ))
+    md_compact::utf8_bytes::mess_ratio_utf8_compact(text, threshold, records, letters, pairs).into()
 }
 
 // The same at the default threshold.
@@ -106,9 +82,7 @@ pub extern "C" fn drasumira_score_utf8_compact_default(
 ) -> HostScore
     ensures { result ≡ host_score (mess_ratio_utf8_compact_default records.now letters.now pairs.now text.now) }
 {
-    flat_scored(md_compact::utf8_bytes::mess_ratio_utf8_compact_default(
-        text, records, letters, pairs,
-    ))
+    md_compact::utf8_bytes::mess_ratio_utf8_compact_default(text, records, letters, pairs).into()
 }
 
 // The mess ratios of many lines, as drasumira_score_lines has them, with a compact class table, which is expanded once.
@@ -124,7 +98,5 @@ pub extern "C" fn drasumira_score_lines_compact(
     ensures value { result ≡ host_counted (lines.lines_answer bytes.now threshold records.now letters.now pairs.now (length out.old)) }
     ensures out_after { out.new ≡ lines.lines_after bytes.now threshold records.now letters.now pairs.now out.old }
 {
-    flat_counted(md_compact::lines::score_lines_compact(
-        bytes, threshold, records, letters, pairs, out,
-    ))
+    md_compact::lines::score_lines_compact(bytes, threshold, records, letters, pairs, out).into()
 }

@@ -1,67 +1,77 @@
 // The flat form of each answer: no enum crosses to a host.
-ghost use Rattle.std.specs.Prelude.{◌≡◌};
+ghost use Rattle.std.specs.Prelude.{◌≡◌, Ok};
 ghost use Rattle.host.specs.Chosen.{host_chosen};
+ghost use Rattle.md_reason_meaning.specs.Numbered.{detector_number};
 ghost use Rattle.ratio.specs.Shown.{none_shown};
+ghost use Rattle.host.specs.Compact.{host_packed};
 ghost use Rattle.host.specs.Host.{host_counted, host_shown, host_counts, host_score, host_verdict, host_ring};
-ghost use Rattle.base.specs.declared.Cause.TheVariants.{Allowed};
 ghost use Rattle.host.specs.Matches.{host_merged};
+ghost use Rattle.host.specs.Running.{host_fed};
 ghost use Rattle.host.specs.Why.{host_reason, host_class};
 
 use crate::{
-    HostChosen, HostClass, HostCounts, HostRead, HostReason, HostRing, HostScore, HostShown,
-    HostVerdict,
+    HostChosen, HostClass, HostCounts, HostFed, HostPacked, HostRead, HostReason, HostRing,
+    HostScore, HostShown, HostVerdict,
 };
-use base::refusals::{ACCEPTED, UNCLASSED};
-use base::{Counted, one};
+use base::refusals::ACCEPTED;
+use base::{Cause, Refusal, one};
 use cd_list::HostRanking;
-use classes::Found;
-use md_chooser_meaning::{Judged, Part};
-use md_meaning::Scored;
-use md_reason_meaning::Reasoned;
+use class_compact_meaning::Packed;
+use classes::Class;
+use md_chooser_meaning::{Part, Side, Unjudged};
+use md_lent_meaning::LentFed;
+use md_meaning::Score;
+use md_reason_meaning::{Detector, Why};
 use ratio::rounding::no_ratios;
 use ratio::{EightShown, Shown};
-use ring_meaning::Ringed;
+use ring_meaning::Kept;
 
-pub fn flat_counted(counted: Counted) -> HostRead
-    ensures { result ≡ host_counted counted }
-{
-    match counted {
-        Counted::Refused(r) => HostRead {
-            number: r.number,
-            place: r.place,
-            count: 0,
-        },
-        Counted::Count(count) => HostRead {
-            number: ACCEPTED,
-            place: 0,
-            count: count,
-        },
+impl From<Result<u32, Refusal>> for HostRead {
+    ghost from_gives = { λ counted h. h ≡ host_counted counted };
+
+    fn from(counted: Result<u32, Refusal>) -> HostRead {
+        match counted {
+            Err(r) => HostRead {
+                number: r.cause.number(),
+                place: r.place,
+                count: 0,
+            },
+            Ok(count) => HostRead {
+                number: ACCEPTED,
+                place: 0,
+                count,
+            },
+        }
     }
 }
 
 // What is shown of one detector; the mark is 1 or 0.
-fn flat_shown(s: Shown) -> HostShown
-    ensures { result ≡ host_shown s }
-{
-    HostShown {
-        num: s.num,
-        den: s.den,
-        cut: one(s.cut),
+impl From<Shown> for HostShown {
+    ghost from_gives = { λ s h. h ≡ host_shown s };
+
+    fn from(s: Shown) -> HostShown {
+        HostShown {
+            num: s.num,
+            den: s.den,
+            cut: one(s.cut),
+        }
     }
 }
 
-fn flat_counts(e: EightShown) -> HostCounts
-    ensures { result ≡ host_counts e }
-{
-    HostCounts {
-        symbols: flat_shown(e.symbols),
-        accents: flat_shown(e.accents),
-        unprintable: flat_shown(e.unprintable),
-        ranges: flat_shown(e.ranges),
-        doubled: flat_shown(e.doubled),
-        words: flat_shown(e.words),
-        stops: flat_shown(e.stops),
-        archaic: flat_shown(e.archaic),
+impl From<EightShown> for HostCounts {
+    ghost from_gives = { λ e h. h ≡ host_counts e };
+
+    fn from(e: EightShown) -> HostCounts {
+        HostCounts {
+            symbols: e.symbols.into(),
+            accents: e.accents.into(),
+            unprintable: e.unprintable.into(),
+            ranges: e.ranges.into(),
+            doubled: e.doubled.into(),
+            words: e.words.into(),
+            stops: e.stops.into(),
+            archaic: e.archaic.into(),
+        }
     }
 }
 
@@ -86,108 +96,101 @@ fn no_counts() -> HostCounts
     }
 }
 
-pub fn flat_scored(scored: Scored) -> HostScore
-    ensures { result ≡ host_score scored }
-{
-    match scored {
-        Scored::Refused(r) => HostScore {
-            number: r.number,
-            place: r.place,
-            ratios: no_ratios(),
-            sum: 0.0,
-            fed: 0,
-            stopped: 0,
-            counts: no_counts(),
-        },
-        Scored::Score(s) => {
-            let ratios = s.ratios;
-            let counts = flat_counts(s.counts);
-            HostScore {
+impl From<Result<Score, Refusal>> for HostScore {
+    ghost from_gives = { λ scored h. h ≡ host_score scored };
+
+    fn from(scored: Result<Score, Refusal>) -> HostScore {
+        match scored {
+            Err(r) => HostScore {
+                number: r.cause.number(),
+                place: r.place,
+                ratios: no_ratios(),
+                sum: 0.0,
+                fed: 0,
+                stopped: 0,
+                counts: no_counts(),
+            },
+            Ok(s) => HostScore {
                 number: ACCEPTED,
                 place: 0,
-                ratios,
+                ratios: s.ratios,
                 sum: s.sum,
                 fed: s.fed,
                 stopped: one(s.stopped),
-                counts,
-            }
+                counts: s.counts.into(),
+            },
         }
     }
 }
 
-pub fn flat_judged(judged: Judged) -> HostVerdict
-    ensures { result ≡ host_verdict judged }
-{
-    match judged {
-        Judged::First => HostVerdict {
-            taken: 1,
-            refused: 0,
-            number: ACCEPTED,
-            place: 0,
-        },
-        Judged::Second => HostVerdict {
-            taken: 2,
-            refused: 0,
-            number: ACCEPTED,
-            place: 0,
-        },
-        Judged::FirstRefused(first) => HostVerdict {
-            taken: 0,
-            refused: 1,
-            number: first.number,
-            place: first.place,
-        },
-        Judged::SecondRefused(second) => HostVerdict {
-            taken: 0,
-            refused: 2,
-            number: second.number,
-            place: second.place,
-        },
+// A text is told by its number, 1 or 2, and 0 is none.
+impl From<Result<Side, Unjudged>> for HostVerdict {
+    ghost from_gives = { λ judged h. h ≡ host_verdict judged };
+
+    fn from(judged: Result<Side, Unjudged>) -> HostVerdict {
+        match judged {
+            Err(unjudged) => HostVerdict {
+                taken: 0,
+                refused: unjudged.side as u32,
+                number: unjudged.why.cause.number(),
+                place: unjudged.why.place,
+            },
+            Ok(side) => HostVerdict {
+                taken: side as u32,
+                refused: 0,
+                number: ACCEPTED,
+                place: 0,
+            },
+        }
     }
 }
 
-pub fn flat_chosen(part: Part) -> HostChosen
-    ensures { result ≡ host_chosen part.judged part.length }
-{
-    let judged = part.judged;
-    let verdict = flat_judged(judged);
-    HostChosen {
-        taken: verdict.taken,
-        length: part.length,
-        number: verdict.number,
-        place: verdict.place,
+impl From<Part> for HostChosen {
+    ghost from_gives = { λ part h. h ≡ host_chosen part.judged part.length };
+
+    fn from(part: Part) -> HostChosen {
+        let verdict = HostVerdict::from(part.judged);
+        HostChosen {
+            taken: verdict.taken,
+            length: part.length,
+            number: verdict.number,
+            place: verdict.place,
+        }
     }
 }
 
-pub fn flat_ringed(ringed: Ringed) -> HostRing
-    ensures { result ≡ host_ring ringed }
-{
-    match ringed {
-        Ringed::Refused(r) => HostRing {
-            number: r.number,
-            place: r.place,
-            head: 0,
-            count: 0,
-        },
-        Ringed::Kept(kept) => HostRing {
-            number: ACCEPTED,
-            place: 0,
-            head: kept.head,
-            count: kept.count,
-        },
+impl From<Result<Kept, Refusal>> for HostRing {
+    ghost from_gives = { λ ringed h. h ≡ host_ring ringed };
+
+    fn from(ringed: Result<Kept, Refusal>) -> HostRing {
+        match ringed {
+            Err(r) => HostRing {
+                number: r.cause.number(),
+                place: r.place,
+                head: 0,
+                count: 0,
+            },
+            Ok(kept) => HostRing {
+                number: ACCEPTED,
+                place: 0,
+                head: kept.head,
+                count: kept.count,
+            },
+        }
     }
 }
 
-pub fn flat_merged(counted: Counted) -> HostRanking
+// A function, since HostRanking is another crate's: only cd_list may write its From.
+pub fn flat_merged(counted: Result<u32, Refusal>) -> HostRanking
     ensures { result ≡ host_merged counted }
 {
     match counted {
-        Counted::Refused(r) => HostRanking {
-            number: r.number,
+        Err(r) => HostRanking {
+            number: r.cause.number(),
             place: r.place,
             count: 0,
         },
-        Counted::Count(count) => HostRanking {
+        Ok(count) => HostRanking {
             number: ACCEPTED,
             place: 0,
             count,
@@ -195,41 +198,90 @@ pub fn flat_merged(counted: Counted) -> HostRanking
     }
 }
 
-pub fn flat_reasoned(reasoned: Reasoned) -> HostReason
-    ensures { result ≡ host_reason reasoned }
+// A detector's number, 0 for none.
+fn flat_detector(detector: Option<Detector>) -> u32
+    ensures { result ≡ detector_number detector }
 {
-    match reasoned {
-        Reasoned::Refused(r) => HostReason {
-            number: r.number,
-            place: r.place,
-            detector: 0,
-            count: 0,
-        },
-        Reasoned::Told(why) => HostReason {
-            number: ACCEPTED,
-            place: 0,
-            detector: why.detector,
-            count: why.count,
-        },
+    match detector {
+        Some(d) => d as u32,
+        None => 0,
+    }
+}
+
+impl From<Result<Why, Refusal>> for HostReason {
+    ghost from_gives = { λ reasoned h. h ≡ host_reason reasoned };
+
+    fn from(reasoned: Result<Why, Refusal>) -> HostReason {
+        match reasoned {
+            Err(r) => HostReason {
+                number: r.cause.number(),
+                place: r.place,
+                detector: 0,
+                count: 0,
+            },
+            Ok(why) => {
+                let detector = flat_detector(why.detector);
+                HostReason {
+                    number: ACCEPTED,
+                    place: 0,
+                    detector,
+                    count: why.count,
+                }
+            }
+        }
     }
 }
 
 // What was found in a class table that was checked.
-pub fn flat_found(found: Found) -> HostClass
-    ensures { result ≡ host_class Allowed found }
-{
-    match found {
-        Found::Nothing => HostClass {
-            number: UNCLASSED,
-            place: 0,
-            flags: 0,
-            range: 0,
-        },
-        Found::At(class) => HostClass {
-            number: ACCEPTED,
-            place: 0,
-            flags: class.flags,
-            range: class.range,
-        },
+impl From<Option<Class>> for HostClass {
+    ghost from_gives = { λ found h. h ≡ host_class (Ok tt) found };
+
+    fn from(found: Option<Class>) -> HostClass {
+        match found {
+            None => HostClass {
+                number: Cause::Unclassed.number(),
+                place: 0,
+                flags: 0,
+                range: 0,
+            },
+            Some(class) => HostClass {
+                number: ACCEPTED,
+                place: 0,
+                flags: class.flags,
+                range: class.range,
+            },
+        }
+    }
+}
+
+impl From<LentFed> for HostFed {
+    ghost from_gives = { λ fed h. h ≡ host_fed fed };
+
+    fn from(fed: LentFed) -> HostFed {
+        HostFed {
+            state: fed.state,
+            answer: fed.answer.into(),
+        }
+    }
+}
+
+impl From<Result<Packed, Refusal>> for HostPacked {
+    ghost from_gives = { λ packing h. h ≡ host_packed packing };
+
+    fn from(packing: Result<Packed, Refusal>) -> HostPacked {
+        match packing {
+            Err(r) => HostPacked {
+                number: r.cause.number(),
+                place: r.place,
+                records: 0,
+                letters: 0,
+            },
+            Ok(packed) => HostPacked {
+                number: ACCEPTED,
+                place: 0,
+                records: packed.records,
+                letters: packed.letters,
+            },
+        }
     }
 }

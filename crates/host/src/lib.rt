@@ -30,21 +30,15 @@ ghost use Rattle.md_reason_meaning.specs.Reason.{reason_answer, reason_into};
 ghost use Rattle.md_reason_meaning.specs.ReasonUtf8.{utf8_answer, utf8_into};
 ghost use Rattle.host.specs.Why.{host_reason, host_class};
 
-use base::Cause;
 use cd_list::HostRanking;
 use cd_ranking::CoherenceMatch;
-use flat::{
-    flat_chosen, flat_counted, flat_found, flat_judged, flat_merged, flat_reasoned, flat_ringed,
-    flat_scored,
-};
+use flat::flat_merged;
 use md_lent_meaning::{HostOpened, HostRunning};
 use ratio::Ratios;
 use ring_meaning::Verdict;
-use running::{chunk_flat, closed_flat, fed_flat};
 
 pub mod compact;
 mod flat;
-mod running;
 
 // The answer of reading, and of a table's check: a refusal's number and place, or zeros and the count.
 #[repr(C)]
@@ -147,7 +141,7 @@ pub struct HostClass {
 pub extern "C" fn drasumira_check_classes(classes: &[u8]) -> HostRead
     ensures { result ≡ host_counted (checked classes.now) }
 {
-    flat_counted(classes::check_classes(classes))
+    classes::check_classes(classes).into()
 }
 
 // The code points of UTF-8 bytes, into the first places of out.
@@ -156,7 +150,7 @@ pub extern "C" fn drasumira_read(bytes: &[u8], out: &mut [u32]) -> HostRead
     ensures value { result ≡ host_counted (answer bytes.now (length out.old)) }
     ensures out_after { out.new ≡ out_after bytes.now out.old }
 {
-    flat_counted(utf8::read_utf8(bytes, out))
+    utf8::read_utf8(bytes, out).into()
 }
 
 // The code points of bytes under a code page, into the first places of out.
@@ -165,7 +159,7 @@ pub extern "C" fn drasumira_read_page(page: &[u16], bytes: &[u8], out: &mut [u32
     ensures value { result ≡ host_counted (read_answer page.now bytes.now (length out.old)) }
     ensures out_after { out.new ≡ read_into page.now bytes.now out.old }
 {
-    flat_counted(page::read_page(page, bytes, out))
+    page::read_page(page, bytes, out).into()
 }
 
 // The bytes of a text under a code page, into the first places of out.
@@ -174,7 +168,7 @@ pub extern "C" fn drasumira_write_page(page: &[u16], text: &[u32], out: &mut [u8
     ensures value { result ≡ host_counted (write_answer page.now text.now (length out.old)) }
     ensures out_after { out.new ≡ write_into page.now text.now out.old }
 {
-    flat_counted(page::write_page(page, text, out))
+    page::write_page(page, text, out).into()
 }
 
 // The mess ratio of a text.
@@ -187,7 +181,7 @@ pub extern "C" fn drasumira_score(
 ) -> HostScore
     ensures { result ≡ host_score (mess_ratio text.now threshold classes.now pairs.now) }
 {
-    flat_scored(md::mess_ratio(text, threshold, classes, pairs))
+    md::mess_ratio(text, threshold, classes, pairs).into()
 }
 
 // The same at the default threshold.
@@ -195,7 +189,7 @@ pub extern "C" fn drasumira_score(
 pub extern "C" fn drasumira_score_default(text: &[u32], classes: &[u8], pairs: &[u8]) -> HostScore
     ensures { result ≡ host_score (mess_ratio_default text.now classes.now pairs.now) }
 {
-    flat_scored(md::mess_ratio_default(text, classes, pairs))
+    md::mess_ratio_default(text, classes, pairs).into()
 }
 
 // The mess ratio by the second engine, of a text of at most 4,096 code points.
@@ -208,7 +202,7 @@ pub extern "C" fn drasumira_second_score(
 ) -> HostScore
     ensures { result ≡ host_score (second_score text.now threshold classes.now pairs.now) }
 {
-    flat_scored(md_second::second_score(text, threshold, classes, pairs))
+    md_second::second_score(text, threshold, classes, pairs).into()
 }
 
 // The mess ratio of the text that UTF-8 bytes are: read and scored in one call.
@@ -221,7 +215,7 @@ pub extern "C" fn drasumira_score_utf8(
 ) -> HostScore
     ensures { result ≡ host_score (mess_ratio_utf8 text.now threshold classes.now pairs.now) }
 {
-    flat_scored(md_utf8::mess_ratio_utf8(text, threshold, classes, pairs))
+    md_utf8::mess_ratio_utf8(text, threshold, classes, pairs).into()
 }
 
 // The same at the default threshold.
@@ -233,7 +227,7 @@ pub extern "C" fn drasumira_score_utf8_default(
 ) -> HostScore
     ensures { result ≡ host_score (mess_ratio_utf8_default text.now classes.now pairs.now) }
 {
-    flat_scored(md_utf8::mess_ratio_utf8_default(text, classes, pairs))
+    md_utf8::mess_ratio_utf8_default(text, classes, pairs).into()
 }
 
 // The mess ratios of many lines, each line's thirteen numbers in its place in out: HostScore's, floats as bits. The tables are checked once.
@@ -248,7 +242,7 @@ pub extern "C" fn drasumira_score_lines(
     ensures value { result ≡ host_counted (bursts.answer bytes.now threshold classes.now pairs.now (length out.old)) }
     ensures out_after { out.new ≡ bursts.out_after bytes.now threshold classes.now pairs.now out.old }
 {
-    flat_counted(md_lines::score_lines(bytes, threshold, classes, pairs, out))
+    md_lines::score_lines(bytes, threshold, classes, pairs, out).into()
 }
 
 // Which of two texts is the more readable, or which was refused.
@@ -261,7 +255,7 @@ pub extern "C" fn drasumira_verdict(
 ) -> HostVerdict
     ensures { result ≡ host_verdict (verdict_of first.now second.now classes.now pairs.now) }
 {
-    flat_judged(md_chooser::verdict(first, second, classes, pairs))
+    md_chooser::verdict(first, second, classes, pairs).into()
 }
 
 // What the chooser hands back, in numbers: the text taken, 1 or 2, 0 for none; how many of its code points stand before its trailing
@@ -285,7 +279,7 @@ pub extern "C" fn drasumira_choose(
 ) -> HostChosen
     ensures { result ≡ host_chosen (verdict_of first.now second.now classes.now pairs.now) (length (chosen first.now second.now classes.now pairs.now)) }
 {
-    flat_chosen(md_chooser::choose_part(first, second, classes, pairs))
+    md_chooser::choose_part(first, second, classes, pairs).into()
 }
 
 // The ranking of a text's languages, into the first entries of matches. The work area is 4 words a code point, zero after acceptance. A refusal
@@ -354,7 +348,7 @@ pub extern "C" fn drasumira_coherence_default(
 pub extern "C" fn drasumira_ring_open(ring: &[u8]) -> HostRing
     ensures { result ≡ host_ring (rings.open_answer ring.now) }
 {
-    flat_ringed(ring::open_ring(ring))
+    ring::open_ring(ring).into()
 }
 
 // Puts a record behind the newest one: the numbers as they are given.
@@ -379,7 +373,7 @@ pub extern "C" fn drasumira_ring_put(
         stopped,
         refusal,
     };
-    flat_ringed(ring::put_record(ring, head, count, verdict))
+    ring::put_record(ring, head, count, verdict).into()
 }
 
 // Writes the oldest records, up to `most` of them, to the front of out. As many came out as the count fell by.
@@ -394,7 +388,7 @@ pub extern "C" fn drasumira_ring_flush(
     ensures value { result ≡ host_ring (rings.flush_answer ring.now head count most (length out.old)) }
     ensures out_after { out.new ≡ rings.out_after ring.now head count most out.old }
 {
-    flat_ringed(ring::flush_records(ring, head, count, most, out))
+    ring::flush_records(ring, head, count, most, out).into()
 }
 
 // A text as UTF-8, into the first places of out.
@@ -403,7 +397,7 @@ pub extern "C" fn drasumira_write_utf8(text: &[u32], out: &mut [u8]) -> HostRead
     ensures value { result ≡ host_counted (writing.answer text.now (length out.old)) }
     ensures out_after { out.new ≡ writing.out_after text.now out.old }
 {
-    flat_counted(utf8_write::write_utf8(text, out))
+    utf8_write::write_utf8(text, out).into()
 }
 
 // Earlier rankings laid end to end, with their lengths, merged into one. Both lists are of match entries, two u32 an entry, as a list of
@@ -422,7 +416,7 @@ pub extern "C" fn drasumira_report(rows: &[u32], out: &mut [u8]) -> HostRead
     ensures value { result ≡ host_counted (report_answer rows.now (length out.old)) }
     ensures out_after { out.new ≡ report_into rows.now out.old }
 {
-    flat_counted(md_report::report(rows, out))
+    md_report::report(rows, out).into()
 }
 
 // What a feeding entry leaves in the lent state, and its answer.
@@ -455,7 +449,7 @@ pub extern "C" fn drasumira_feed(
 ) -> HostRead
     ensures { (state.new ≡ (fed_host state.old point classes.now pairs.now).state) × (result ≡ (fed_host state.old point classes.now pairs.now).answer) }
 {
-    let fed = fed_flat(*state, point, classes, pairs);
+    let fed = HostFed::from(md_lent::feed_lent(*state, point, classes, pairs));
     *state = fed.state;
     fed.answer
 }
@@ -470,7 +464,7 @@ pub extern "C" fn drasumira_feed_all(
 ) -> HostRead
     ensures { (state.new ≡ (chunk_host state.old text.now classes.now pairs.now).state) × (result ≡ (chunk_host state.old text.now classes.now pairs.now).answer) }
 {
-    let fed = chunk_flat(*state, text, classes, pairs);
+    let fed = HostFed::from(md_lent::chunk_lent(*state, text, classes, pairs));
     *state = fed.state;
     fed.answer
 }
@@ -480,7 +474,7 @@ pub extern "C" fn drasumira_feed_all(
 pub extern "C" fn drasumira_close(state: &HostRunning) -> HostScore
     ensures { result ≡ closed_host state.now }
 {
-    closed_flat(*state)
+    md_lent::close_lent(*state).into()
 }
 
 // Why a text is noise: the first detector with the greatest ratio, and the indexes at which its numerator grew into the first places of out.
@@ -495,7 +489,7 @@ pub extern "C" fn drasumira_reason(
     ensures value { result ≡ host_reason (reason_answer text.now threshold classes.now pairs.now (length out.old)) }
     ensures out_after { out.new ≡ reason_into text.now threshold classes.now pairs.now out.old }
 {
-    flat_reasoned(md_reason::reason(text, threshold, classes, pairs, out))
+    md_reason::reason(text, threshold, classes, pairs, out).into()
 }
 
 // The same of the text that UTF-8 bytes are; the indexes are in code points.
@@ -510,7 +504,7 @@ pub extern "C" fn drasumira_reason_utf8(
     ensures value { result ≡ host_reason (utf8_answer bytes.now threshold classes.now pairs.now (length out.old)) }
     ensures out_after { out.new ≡ utf8_into bytes.now threshold classes.now pairs.now out.old }
 {
-    flat_reasoned(md_reason::utf8_bytes::reason_utf8(bytes, threshold, classes, pairs, out))
+    md_reason::utf8_bytes::reason_utf8(bytes, threshold, classes, pairs, out).into()
 }
 
 // What a code point is, by the built-in table or the lent one.
@@ -519,15 +513,15 @@ pub extern "C" fn drasumira_class(point: u32, classes: &[u8]) -> HostClass
     ensures { result ≡ host_class (bad_classes classes.now) (class_of classes.now point) }
 {
     match classes::bad_classes(classes) {
-        Cause::Refused(why) => HostClass {
-            number: why.number,
+        Err(why) => HostClass {
+            number: why.cause.number(),
             place: why.place,
             flags: 0,
             range: 0,
         },
-        Cause::Allowed => {
+        Ok(()) => {
             let table = class_builtin::table();
-            flat_found(classes::look_up_in(point, &table, classes))
+            classes::look_up_in(point, &table, classes).into()
         }
     }
 }

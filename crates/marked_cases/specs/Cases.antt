@@ -2,24 +2,22 @@
 -- without the newline". A score or a ratio is given by the bits of its f32. Where a case needs a character past U+024F, or a suspicious pair of ranges,
 -- its record or its pair stands with it. When a case is right is said by the definitions that the calls' contracts equate their answers with.
 -- Assumes nothing.
-use Rattle.std.specs.Prelude.{ℕ, ◌+◌, ◌*◌, ◌/◌, ◌%◌, ◌^◌, Bool, true, false, ◌&&◌, List, [], ◌∷◌, ◌++◌, eqb, length, replicate, set}
+use Rattle.std.specs.Prelude.{ℕ, ◌+◌, ◌*◌, ◌/◌, ◌%◌, ◌^◌, Bool, true, false, ◌&&◌, List, [], ◌∷◌, ◌++◌, eqb, length, replicate, set, Result, Ok, Err, Option, Some, None}
 use Rattle.std.specs.Float.Ieee.{of_bits, to_bits}
 use Rattle.std.specs.Float.{binary32}
+use Rattle.base.specs.declared.Refusal.{Refusal}
 use Rattle.base.specs.Every.{both_tests}
 use Rattle.base.specs.Flags.{ALPHABETIC, CJK, CASE_VARIABLE, LOWERCASE, CHAR_ALPHABETIC}
 use Rattle.base.specs.Limits.{PAIR_BYTES, RANGES}
 use Rattle.base.specs.Tests.{same}
 use Rattle.classes.specs.declared.Class.{Class}
-use Rattle.classes.specs.declared.Found.{Found}
-use Rattle.classes.specs.declared.Found.TheVariants.{At, Nothing}
 use Rattle.classes.specs.Lookup.{class_of}
 use Rattle.class_records.specs.Records.{good_table}
-use Rattle.md_meaning.specs.declared.Scored.{Scored}
-use Rattle.md_meaning.specs.declared.Scored.TheVariants.{Score, Refused}
 use Rattle.md_meaning.specs.MessRatio.{mess_ratio}
 use Rattle.program.specs.Program.{NO_CLASSES, NO_PAIRS}
 use Rattle.pieces.specs.Words.{codes}
 use Rattle.marked_cases.specs.Alone.{Detector, Symbols, Accents, Ranges, Stops, Archaic, ratio_of}
+use Rattle.md_meaning.specs.declared.Score.{Score}
 
 pub data Case : Type 0 where
   -- the whole scan of a text, at a threshold: the score, the characters fed, whether it stopped
@@ -94,14 +92,14 @@ cases =
     ∷ []
 
 -- the answer is this score
-unfoldable pub tells : Scored → ℕ → ℕ → Bool → Bool
-tells (Score s) score fed stopped = eqb (to_bits binary32 s.sum) score && eqb s.fed fed && same s.stopped stopped
-tells (Refused r) score fed stopped = false
+unfoldable pub tells : Result Score Refusal → ℕ → ℕ → Bool → Bool
+tells (Ok s) score fed stopped = eqb (to_bits binary32 s.sum) score && eqb s.fed fed && same s.stopped stopped
+tells (Err r) score fed stopped = false
 
 -- the classes of a text were all found, and f holds of them
-abbrev pub with_class : Found → (Class → Bool) → Bool
-with_class (At c) f = f c
-with_class Nothing f = false
+abbrev pub with_class : Option Class → (Class → Bool) → Bool
+with_class (Some c) f = f c
+with_class None f = false
 
 unfoldable pub with_classes : List ℕ → List ℕ → (List Class → Bool) → Bool
 with_classes classes [] f = f []

@@ -15,13 +15,12 @@ ghost use Rattle.md.specs.Inner.Looked.{LookedAt};
 ghost use Rattle.md.specs.Inner.Ready.{Ready};
 
 use crate::step::fed_run;
-use crate::unscored;
 use base::limits::BUILTIN_END;
-use base::refusals::UNCLASSED;
+use base::{Cause, Refusal, refuse};
 use class_builtin::Table;
-use classes::{Found, HINTS, builtin_class, class_in, held_near};
+use classes::{Class, HINTS, builtin_class, class_in, held_near};
 use md_eight::Detectors;
-use md_meaning::{Limit, Score, Scored};
+use md_meaning::Score;
 use md_rest::whole::unclassed_rest;
 use md_text::{at_checkpoint, char_at};
 use ratio::{EightCounts, rounding, telling};
@@ -29,7 +28,7 @@ use ratio::{EightCounts, rounding, telling};
 // What the lookup finds for a character, and the lent record that it found it in; below the built-in table's end there is none, and `held` says nothing.
 #[derive(Clone, Copy)]
 pub struct Looked {
-    pub found: Found,
+    pub found: Option<Class>,
     pub held: usize,
 }
 
@@ -47,7 +46,7 @@ fn class_at(
     let p = char_at(text, i);
     if p < BUILTIN_END {
         return Looked {
-            found: Found::At(builtin_class(p, table)),
+            found: Some(builtin_class(p, table)),
             held: 0,
         };
     }
@@ -66,17 +65,17 @@ fn sum_of(s: Detectors) -> f32
 }
 
 // Whether a sum makes the scan stop.
-fn reaches(limit: Limit, sum: f32) -> bool
+fn reaches(limit: Option<f32>, sum: f32) -> bool
     ensures { result ≡ scans.reaches limit sum }
 {
     match limit {
-        Limit::Threshold(t) => t <= sum,
-        Limit::Never => false,
+        Some(t) => t <= sum,
+        None => false,
     }
 }
 
 // Whether the scan stops after the character at i, in a text of n characters.
-pub fn is_over(s: Detectors, n: usize, i: usize, limit: Limit) -> bool
+pub fn is_over(s: Detectors, n: usize, i: usize, limit: Option<f32>) -> bool
     requires { detectors.Countable s }
     ensures { result ≡ (checkpoint n i && scans.reaches limit (scans.sum_of s)) }
 {
@@ -88,22 +87,22 @@ pub fn is_over(s: Detectors, n: usize, i: usize, limit: Limit) -> bool
 
 // The answer that these counts make. The scan calls it at two places, so that it stays out of line and the state in registers: with the state itself
 // handed over, each character costs half as much again.
-fn answered(c: EightCounts, fed: u32, stopped: bool) -> Scored
+fn answered(c: EightCounts, fed: u32, stopped: bool) -> Result<Score, Refusal>
     requires { EachSmall c }
     ensures { result ≡ scanned.answered c fed stopped }
 {
     let ratios = rounding::ratios(c);
-    Scored::Score(Score {
-        ratios: ratios,
+    Ok(Score {
+        ratios,
         sum: rounding::sum(ratios),
-        fed: fed,
-        stopped: stopped,
+        fed,
+        stopped,
         counts: telling::eight_shown(c, ratios),
     })
 }
 
 // The answer after `fed` characters.
-pub fn scored(s: Detectors, fed: u32, stopped: bool) -> Scored
+pub fn scored(s: Detectors, fed: u32, stopped: bool) -> Result<Score, Refusal>
     requires { detectors.Countable s }
     ensures { result ≡ scans.scored s fed stopped }
 {
@@ -117,13 +116,13 @@ fn stopped_after(
     i: usize,
     hints: &mut [usize; HINTS],
     classes: &[u8],
-) -> Scored
+) -> Result<Score, Refusal>
     requires { (good_table classes.now ≡ true) × (length text.now ≤ LONGEST_TEXT) × (i < total text.now) × detectors.Countable s }
     ensures { result ≡ going.stopped_after classes.now text.now s i }
 {
     let bad = unclassed_rest(text, i + 1, hints, classes);
     if bad <= text.len() {
-        return unscored(UNCLASSED, bad as u32);
+        return refuse(Cause::Unclassed, bad as u32);
     }
     answered(s.counts(), (i + 1) as u32, true)
 }
@@ -132,28 +131,27 @@ fn stopped_after(
 // whatever the hints are, the answer is the same.
 pub fn scan_text_in(
     text: &[u32],
-    limit: Limit,
+    limit: Option<f32>,
     hints: &mut [usize; HINTS],
     table: &Table,
     classes: &[u8],
     pairs: &[u8],
-) -> Scored
+) -> Result<Score, Refusal>
     requires { Ready table.now classes.now pairs.now text.now }
     ensures { result ≡ scan classes.now pairs.now text.now limit }
 {
     let n = text.len() + 1;
     let mut s = Detectors::start();
     let mut i = 0;
+    // Stays a while: a turn feeds as many characters as stand in a run of one kind, one or more.
     while i < n {
         let looked = class_at(text, i, hints, table, classes);
-        let found = looked.found;
-        let Found::At(c) = found else {
-            return unscored(UNCLASSED, i as u32);
+        let Some(c) = looked.found else {
+            return refuse(Cause::Unclassed, i as u32);
         };
         let f = fed_run(s, c, text, i, looked.held, classes, pairs);
         i = f.next;
-        let t = f.state;
-        s = t.recounted(i as u32);
+        s = f.state.recounted(i as u32);
         if is_over(s, text.len(), i - 1, limit) {
             return stopped_after(s, text, i - 1, hints, classes);
         }
@@ -162,7 +160,12 @@ pub fn scan_text_in(
 }
 
 // The same for one text.
-pub fn scan_text(text: &[u32], limit: Limit, classes: &[u8], pairs: &[u8]) -> Scored
+pub fn scan_text(
+    text: &[u32],
+    limit: Option<f32>,
+    classes: &[u8],
+    pairs: &[u8],
+) -> Result<Score, Refusal>
     requires { Tables classes.now pairs.now × (length text.now ≤ LONGEST_TEXT) }
     ensures { result ≡ scan classes.now pairs.now text.now limit }
 {

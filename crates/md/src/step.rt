@@ -48,8 +48,7 @@ pub fn fed_run(
         return fed_lower(s, c, text, i, classes, pairs);
     }
     let f = fed_word(s, c, text, i, held, classes, pairs);
-    let t = f.state;
-    let slim = t.slimmed();
+    let slim = f.state.slimmed();
     let end = f.next;
     if before_space(text, end) {
         return Fed {

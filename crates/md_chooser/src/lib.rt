@@ -7,9 +7,10 @@ ghost use Rattle.md_chooser_meaning.specs.Inner.Part.{PartLength};
 ghost use Rattle.md_chooser_meaning.specs.Choose.{chosen, taken_from, verdict_of};
 ghost use Rattle.md_chooser_meaning.specs.Choose.{judged as judged_by};
 
+use base::Refusal;
 use base::limits::NEWLINE;
-use md_chooser_meaning::{Judged, Part};
-use md_meaning::Scored;
+use md_chooser_meaning::{Part, Side, Unjudged};
+use md_meaning::Score;
 
 // The more readable of two texts, each scored whole: the part before its trailing newlines. An empty part of the first where either is
 // refused; `verdict` says which and why.
@@ -20,10 +21,9 @@ pub fn choose<'a>(first: &'a [u32], second: &'a [u32], classes: &[u8], pairs: &[
     let judged = verdict(first, second, classes, pairs);
     let n = part_length(judged, first, second);
     match judged {
-        Judged::First => &first[..n],
-        Judged::Second => &second[..n],
-        Judged::FirstRefused(_) => &first[..0],
-        Judged::SecondRefused(_) => &first[..0],
+        Ok(Side::First) => &first[..n],
+        Ok(Side::Second) => &second[..n],
+        Err(_) => &first[..0],
     }
 }
 
@@ -40,7 +40,12 @@ pub fn choose_part(first: &[u32], second: &[u32], classes: &[u8], pairs: &[u8]) 
 }
 
 // Which of two texts is the more readable, or which was refused: the first is checked first.
-pub fn verdict(first: &[u32], second: &[u32], classes: &[u8], pairs: &[u8]) -> Judged
+pub fn verdict(
+    first: &[u32],
+    second: &[u32],
+    classes: &[u8],
+    pairs: &[u8],
+) -> Result<Side, Unjudged>
     ensures { result ≡ verdict_of first.now second.now classes.now pairs.now }
 {
     judge(
@@ -50,31 +55,36 @@ pub fn verdict(first: &[u32], second: &[u32], classes: &[u8], pairs: &[u8]) -> J
 }
 
 // The verdict on two answers: the lower sum is the more readable, and equal sums take the first.
-fn judge(first: Scored, second: Scored) -> Judged
+fn judge(first: Result<Score, Refusal>, second: Result<Score, Refusal>) -> Result<Side, Unjudged>
     ensures { result ≡ judged_by first second }
 {
     match first {
-        Scored::Refused(r) => Judged::FirstRefused(r),
-        Scored::Score(a) => match second {
-            Scored::Refused(r) => Judged::SecondRefused(r),
-            Scored::Score(b) => if b.sum < a.sum {
-                Judged::Second
+        Err(why) => Err(Unjudged {
+            side: Side::First,
+            why,
+        }),
+        Ok(a) => match second {
+            Err(why) => Err(Unjudged {
+                side: Side::Second,
+                why,
+            }),
+            Ok(b) => if b.sum < a.sum {
+                Ok(Side::Second)
             } else {
-                Judged::First
+                Ok(Side::First)
             },
         },
     }
 }
 
 // How many code points of the text that the verdict names are handed back: none where one was refused.
-fn part_length(judged: Judged, first: &[u32], second: &[u32]) -> usize
+fn part_length(judged: Result<Side, Unjudged>, first: &[u32], second: &[u32]) -> usize
     ensures { PartLength judged first.now second.now result }
 {
     match judged {
-        Judged::First => cut_length(first),
-        Judged::Second => cut_length(second),
-        Judged::FirstRefused(_) => 0,
-        Judged::SecondRefused(_) => 0,
+        Ok(Side::First) => cut_length(first),
+        Ok(Side::Second) => cut_length(second),
+        Err(_) => 0,
     }
 }
 
@@ -82,12 +92,10 @@ fn part_length(judged: Judged, first: &[u32], second: &[u32]) -> usize
 fn cut_length(text: &[u32]) -> usize
     ensures { CutLength text.now result }
 {
-    let mut n = text.len();
-    while 0 < n {
-        if text[n - 1] != NEWLINE {
-            break;
+    for k in (0..text.len()).rev() {
+        if text[k] != NEWLINE {
+            return k + 1;
         }
-        n -= 1;
     }
-    n
+    0
 }

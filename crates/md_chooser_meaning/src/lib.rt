@@ -4,18 +4,23 @@
 
 use base::Refusal;
 
-// What the verdict call says: which text is the more readable, or which was refused, and why.
-#[derive(Clone, Copy)]
-pub enum Judged {
-    First,
-    Second,
-    FirstRefused(Refusal),
-    SecondRefused(Refusal),
+// One of the two texts, by its number.
+#[derive(Clone, Copy, Debug, PartialEq, Eq)]
+pub enum Side {
+    First = 1,
+    Second = 2,
+}
+
+// Why no text is the more readable: the text that was refused, and its refusal.
+#[derive(Clone, Copy, Debug, PartialEq, Eq)]
+pub struct Unjudged {
+    pub side: Side,
+    pub why: Refusal,
 }
 
 // The verdict, and how many code points are handed back: what `choose` answers, in numbers, for a host to which no slice crosses.
 #[derive(Clone, Copy)]
 pub struct Part {
-    pub judged: Judged,
+    pub judged: Result<Side, Unjudged>,
     pub length: u32,
 }

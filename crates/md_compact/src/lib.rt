@@ -8,14 +8,13 @@ ghost use Rattle.class_compact_meaning.specs.Inner.Sound.{Expanded};
 ghost use Rattle.md_compact.specs.Scoring.{mess_ratio_compact, mess_ratio_compact_default};
 
 use base::limits::CLASS_RECORD;
-use base::refusals::BAD_CLASSES;
-use base::{Cause, Refusal};
+use base::{Cause, Refusal, refuse};
 use class_compact::expand::unpack_into;
 use class_compact::fault::beyond_table;
 use class_compact::{COMPACT_RECORD, EXPANSION_ROOM, wrong_list};
 use first::first_of_text;
 use md::{DEFAULT_THRESHOLD, mess_ratio};
-use md_meaning::Scored;
+use md_meaning::Score;
 
 mod first;
 pub mod lines;
@@ -30,14 +29,15 @@ fn score_table(
     table: &[u8],
     ordered: bool,
     pairs: &[u8],
-) -> Scored
+) -> Result<Score, Refusal>
     requires { Expanded records.now letters.now table.now ordered }
     ensures { result ≡ mess_ratio_compact records.now letters.now pairs.now text.now threshold }
 {
-    match beyond_table(records, letters, table, ordered) {
-        Cause::Refused(why) => Scored::Refused(first_of_text(text, threshold, why)),
-        Cause::Allowed => mess_ratio(text, threshold, table, pairs),
+    if let Err(why) = beyond_table(records, letters, table, ordered) {
+        first_of_text(text, threshold)?;
+        return Err(why);
     }
+    mess_ratio(text, threshold, table, pairs)
 }
 
 // The same through a room for the expansion.
@@ -47,7 +47,7 @@ fn score_expanded(
     records: &[u8],
     letters: &[u8],
     pairs: &[u8],
-) -> Scored
+) -> Result<Score, Refusal>
     requires { Sized records.now }
     ensures { result ≡ mess_ratio_compact records.now letters.now pairs.now text.now threshold }
 {
@@ -72,15 +72,12 @@ pub fn mess_ratio_compact(
     records: &[u8],
     letters: &[u8],
     pairs: &[u8],
-) -> Scored
+) -> Result<Score, Refusal>
     ensures { result ≡ mess_ratio_compact records.now letters.now pairs.now text.now threshold }
 {
     if wrong_list(records) {
-        let size = Refusal {
-            number: BAD_CLASSES,
-            place: 0,
-        };
-        return Scored::Refused(first_of_text(text, threshold, size));
+        first_of_text(text, threshold)?;
+        return refuse(Cause::BadClasses, 0);
     }
     score_expanded(text, threshold, records, letters, pairs)
 }
@@ -91,7 +88,7 @@ pub fn mess_ratio_compact_default(
     records: &[u8],
     letters: &[u8],
     pairs: &[u8],
-) -> Scored
+) -> Result<Score, Refusal>
     ensures { result ≡ mess_ratio_compact_default records.now letters.now pairs.now text.now }
 {
     mess_ratio_compact(text, DEFAULT_THRESHOLD, records, letters, pairs)

@@ -6,8 +6,7 @@ ghost use Rattle.md_compact.specs.Lines as lines;
 
 use crate::first::first_of_burst;
 use base::limits::CLASS_RECORD;
-use base::refusals::BAD_CLASSES;
-use base::{Cause, Counted, Refusal};
+use base::{Cause, Refusal, refuse};
 use class_compact::expand::unpack_into;
 use class_compact::fault::beyond_table;
 use class_compact::{COMPACT_RECORD, EXPANSION_ROOM, wrong_list};
@@ -22,15 +21,16 @@ fn score_lines_table(
     ordered: bool,
     pairs: &[u8],
     out: &mut [u32],
-) -> Counted
+) -> Result<u32, Refusal>
     requires { Expanded records.now letters.now table.now ordered }
     ensures value { result ≡ lines.lines_answer bytes.now threshold records.now letters.now pairs.now (length out.old) }
     ensures out_after { out.new ≡ lines.lines_after bytes.now threshold records.now letters.now pairs.now out.old }
 {
-    match beyond_table(records, letters, table, ordered) {
-        Cause::Refused(why) => Counted::Refused(first_of_burst(bytes, threshold, why)),
-        Cause::Allowed => score_lines(bytes, threshold, table, pairs, out),
+    if let Err(why) = beyond_table(records, letters, table, ordered) {
+        first_of_burst(bytes, threshold)?;
+        return Err(why);
     }
+    score_lines(bytes, threshold, table, pairs, out)
 }
 
 fn score_lines_expanded(
@@ -40,7 +40,7 @@ fn score_lines_expanded(
     letters: &[u8],
     pairs: &[u8],
     out: &mut [u32],
-) -> Counted
+) -> Result<u32, Refusal>
     requires { Sized records.now }
     ensures value { result ≡ lines.lines_answer bytes.now threshold records.now letters.now pairs.now (length out.old) }
     ensures out_after { out.new ≡ lines.lines_after bytes.now threshold records.now letters.now pairs.now out.old }
@@ -68,16 +68,13 @@ pub fn score_lines_compact(
     letters: &[u8],
     pairs: &[u8],
     out: &mut [u32],
-) -> Counted
+) -> Result<u32, Refusal>
     ensures value { result ≡ lines.lines_answer bytes.now threshold records.now letters.now pairs.now (length out.old) }
     ensures out_after { out.new ≡ lines.lines_after bytes.now threshold records.now letters.now pairs.now out.old }
 {
     if wrong_list(records) {
-        let size = Refusal {
-            number: BAD_CLASSES,
-            place: 0,
-        };
-        return Counted::Refused(first_of_burst(bytes, threshold, size));
+        first_of_burst(bytes, threshold)?;
+        return refuse(Cause::BadClasses, 0);
     }
     score_lines_expanded(bytes, threshold, records, letters, pairs, out)
 }

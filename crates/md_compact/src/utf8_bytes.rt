@@ -6,13 +6,12 @@ ghost use Rattle.md_compact.specs.Scoring.{mess_ratio_utf8_compact, mess_ratio_u
 
 use crate::first::first_of_bytes;
 use base::limits::CLASS_RECORD;
-use base::refusals::BAD_CLASSES;
-use base::{Cause, Refusal};
+use base::{Cause, Refusal, refuse};
 use class_compact::expand::unpack_into;
 use class_compact::fault::beyond_table;
 use class_compact::{COMPACT_RECORD, EXPANSION_ROOM, wrong_list};
 use md::DEFAULT_THRESHOLD;
-use md_meaning::Scored;
+use md_meaning::Score;
 use md_utf8::mess_ratio_utf8;
 
 fn score_utf8_table(
@@ -23,14 +22,15 @@ fn score_utf8_table(
     table: &[u8],
     ordered: bool,
     pairs: &[u8],
-) -> Scored
+) -> Result<Score, Refusal>
     requires { Expanded records.now letters.now table.now ordered }
     ensures { result ≡ mess_ratio_utf8_compact records.now letters.now pairs.now bytes.now threshold }
 {
-    match beyond_table(records, letters, table, ordered) {
-        Cause::Refused(why) => Scored::Refused(first_of_bytes(bytes, threshold, why)),
-        Cause::Allowed => mess_ratio_utf8(bytes, threshold, table, pairs),
+    if let Err(why) = beyond_table(records, letters, table, ordered) {
+        first_of_bytes(bytes, threshold)?;
+        return Err(why);
     }
+    mess_ratio_utf8(bytes, threshold, table, pairs)
 }
 
 fn score_utf8_expanded(
@@ -39,7 +39,7 @@ fn score_utf8_expanded(
     records: &[u8],
     letters: &[u8],
     pairs: &[u8],
-) -> Scored
+) -> Result<Score, Refusal>
     requires { Sized records.now }
     ensures { result ≡ mess_ratio_utf8_compact records.now letters.now pairs.now bytes.now threshold }
 {
@@ -64,15 +64,12 @@ pub fn mess_ratio_utf8_compact(
     records: &[u8],
     letters: &[u8],
     pairs: &[u8],
-) -> Scored
+) -> Result<Score, Refusal>
     ensures { result ≡ mess_ratio_utf8_compact records.now letters.now pairs.now bytes.now threshold }
 {
     if wrong_list(records) {
-        let size = Refusal {
-            number: BAD_CLASSES,
-            place: 0,
-        };
-        return Scored::Refused(first_of_bytes(bytes, threshold, size));
+        first_of_bytes(bytes, threshold)?;
+        return refuse(Cause::BadClasses, 0);
     }
     score_utf8_expanded(bytes, threshold, records, letters, pairs)
 }
@@ -83,7 +80,7 @@ pub fn mess_ratio_utf8_compact_default(
     records: &[u8],
     letters: &[u8],
     pairs: &[u8],
-) -> Scored
+) -> Result<Score, Refusal>
     ensures { result ≡ mess_ratio_utf8_compact_default records.now letters.now pairs.now bytes.now }
 {
     mess_ratio_utf8_compact(bytes, DEFAULT_THRESHOLD, records, letters, pairs)

@@ -9,11 +9,11 @@ ghost use Rattle.md_running_meaning.specs.Chunk.{feed_chunk};
 ghost use Rattle.md_running_meaning.specs.Closing.{close_line};
 ghost use Rattle.md_lent_meaning.specs.Lent as lent;
 
-use base::Counted;
+use base::Refusal;
 use base::refusals::ACCEPTED;
 use md_lent_meaning::{HostOpened, HostRunning, LentFed};
-use md_meaning::Scored;
-use md_running_meaning::{Fed, Opened, Running};
+use md_meaning::Score;
+use md_running_meaning::{Fed, Running};
 use numbers::{lent_of, no_lent, running_of};
 
 mod numbers;
@@ -23,12 +23,12 @@ pub fn open_lent(length: u32, threshold: f32, classes: &[u8], pairs: &[u8]) -> H
     ensures { result ≡ lent.host_opened (open_line length threshold classes.now pairs.now) }
 {
     match md_running::open_line(length, threshold, classes, pairs) {
-        Opened::Refused(why) => HostOpened {
-            number: why.number,
+        Err(why) => HostOpened {
+            number: why.cause.number(),
             place: why.place,
             state: no_lent(),
         },
-        Opened::Running(s) => HostOpened {
+        Ok(s) => HostOpened {
             number: ACCEPTED,
             place: 0,
             state: lent_of(s, f32::to_bits(s.threshold)),
@@ -41,9 +41,10 @@ fn next_lent(h: HostRunning, s: Running) -> HostRunning
     ensures { result ≡ lent.next_lent h s }
 {
     if (h.stopped != 0) | (s.received == h.received) {
-        let mut next = h;
-        next.received = s.received;
-        return next;
+        return HostRunning {
+            received: s.received,
+            ..h
+        };
     }
     lent_of(s, h.threshold)
 }
@@ -51,16 +52,14 @@ fn next_lent(h: HostRunning, s: Running) -> HostRunning
 fn fed_lent(h: HostRunning, fed: Fed) -> LentFed
     ensures { result ≡ lent.fed_lent h fed }
 {
-    let state = fed.state;
-    let answer = fed.answer;
-    match answer {
-        Counted::Refused(why) => LentFed {
+    match fed.answer {
+        Err(why) => LentFed {
             state: h,
-            answer: Counted::Refused(why),
+            answer: Err(why),
         },
-        Counted::Count(n) => LentFed {
-            state: next_lent(h, state),
-            answer: Counted::Count(n),
+        Ok(n) => LentFed {
+            state: next_lent(h, fed.state),
+            answer: Ok(n),
         },
     }
 }
@@ -86,7 +85,7 @@ pub fn chunk_lent(h: HostRunning, text: &[u32], classes: &[u8], pairs: &[u8]) ->
 }
 
 // The answer of a line that has arrived in full.
-pub fn close_lent(h: HostRunning) -> Scored
+pub fn close_lent(h: HostRunning) -> Result<Score, Refusal>
     ensures { result ≡ close_line (lent.running_of h) }
 {
     md_running::close_line(running_of(h))

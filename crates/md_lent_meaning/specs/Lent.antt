@@ -3,17 +3,15 @@
 -- stopped, further characters are counted as received and change nothing else": only a call that feeds writes marks, as 1 or 0. That numbers which a call
 -- wrote mean the state that it wrote is the law `back` (proofs/Laws/Lent).
 -- Assumes nothing.
-use Rattle.std.specs.Prelude.{ℕ, Bool, not, cond, ◌||◌, eqb}
+use Rattle.std.specs.Prelude.{ℕ, Bool, not, cond, ◌||◌, eqb, Result, Ok, Err}
 use Rattle.std.specs.Float.Ieee.{of_bits}
 use Rattle.std.specs.Float.{binary32}
-use Rattle.base.specs.declared.Counted.{Counted}
-use Rattle.base.specs.declared.Counted.TheVariants.{Count, Refused}
+use Rattle.base.specs.declared.Refusal.{Refusal}
 use Rattle.base.specs.Numbers.{bump}
 use Rattle.ratio.specs.Rounded.{bits_of}
 use Rattle.md_eight.specs.declared.Detectors.{Detectors}
 use Rattle.md_growth.specs.declared.Growths.{Growths}
 use Rattle.md_running_meaning.specs.declared.Running.{Running}
-use Rattle.md_running_meaning.specs.declared.Opened.{Opened}
 use Rattle.md_running_meaning.specs.declared.Fed.{Fed}
 use Rattle.md_running_meaning.specs.Opening.{values}
 use Rattle.md_lent_meaning.specs.declared.HostRunning.{HostRunning}
@@ -172,7 +170,7 @@ lent_of s bits =
 
 -- ---- the calls
 -- opening: zeros where it refuses, which is what no line is in numbers (`none_lent`)
-unfoldable pub host_opened : Opened → HostOpened
+unfoldable pub host_opened : Result Running Refusal → HostOpened
 host_opened a =
     record {
       number = (values a).number;
@@ -204,9 +202,9 @@ lent_received h n =
 unfoldable pub next_lent : HostRunning → Running → HostRunning
 next_lent h s = cond (marked h.stopped || eqb s.received h.received) (lent_received h s.received) (lent_of s h.threshold)
 
-unfoldable pub left_of : Counted → HostRunning → HostRunning → HostRunning
-left_of (Count n) h next = next
-left_of (Refused r) h next = h
+unfoldable pub left_of : Result ℕ Refusal → HostRunning → HostRunning → HostRunning
+left_of (Ok n) h next = next
+left_of (Err r) h next = h
 
 -- a feeding call
 unfoldable pub fed_lent : HostRunning → Fed → LentFed

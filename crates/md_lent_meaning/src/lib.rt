@@ -2,11 +2,11 @@
 // function stands here; md_lent has those that run.
 #![tactic(auto)]
 
-use base::Counted;
+use base::Refusal;
 
 // The numbers of each detector, in md.rs's order, and the places of the last growths: a mark is a u32.
 #[repr(C)]
-#[derive(Clone, Copy)]
+#[derive(Clone, Copy, Default)]
 pub struct HostSymbols {
     pub characters: u32,
     pub punctuation: u32,
@@ -15,21 +15,21 @@ pub struct HostSymbols {
 }
 
 #[repr(C)]
-#[derive(Clone, Copy)]
+#[derive(Clone, Copy, Default)]
 pub struct HostAccents {
     pub characters: u32,
     pub accentuated: u32,
 }
 
 #[repr(C)]
-#[derive(Clone, Copy)]
+#[derive(Clone, Copy, Default)]
 pub struct HostUnprintable {
     pub characters: u32,
     pub unprintable: u32,
 }
 
 #[repr(C)]
-#[derive(Clone, Copy)]
+#[derive(Clone, Copy, Default)]
 pub struct HostRanges {
     pub characters: u32,
     pub suspicious: u32,
@@ -38,7 +38,7 @@ pub struct HostRanges {
 }
 
 #[repr(C)]
-#[derive(Clone, Copy)]
+#[derive(Clone, Copy, Default)]
 pub struct HostDoubled {
     pub characters: u32,
     pub successive: u32,
@@ -47,7 +47,7 @@ pub struct HostDoubled {
 }
 
 #[repr(C)]
-#[derive(Clone, Copy)]
+#[derive(Clone, Copy, Default)]
 pub struct HostWords {
     pub characters: u32,
     pub words: u32,
@@ -62,14 +62,14 @@ pub struct HostWords {
 }
 
 #[repr(C)]
-#[derive(Clone, Copy)]
+#[derive(Clone, Copy, Default)]
 pub struct HostStops {
     pub wrong: u32,
     pub cjk: u32,
 }
 
 #[repr(C)]
-#[derive(Clone, Copy)]
+#[derive(Clone, Copy, Default)]
 pub struct HostArchaic {
     pub characters: u32,
     pub since: u32,
@@ -81,7 +81,7 @@ pub struct HostArchaic {
 }
 
 #[repr(C)]
-#[derive(Clone, Copy)]
+#[derive(Clone, Copy, Default)]
 pub struct HostGrowths {
     pub symbols: u32,
     pub accents: u32,
@@ -96,7 +96,7 @@ pub struct HostGrowths {
 // A line of which some characters have arrived: its declared length, how many were received and how many of them fed, the threshold's bits and the mark of
 // having stopped; then the detectors, and where each last grew.
 #[repr(C)]
-#[derive(Clone, Copy)]
+#[derive(Clone, Copy, Default)]
 pub struct HostRunning {
     pub length: u32,
     pub received: u32,
@@ -127,5 +127,5 @@ pub struct HostOpened {
 #[derive(Clone, Copy)]
 pub struct LentFed {
     pub state: HostRunning,
-    pub answer: Counted,
+    pub answer: Result<u32, Refusal>,
 }

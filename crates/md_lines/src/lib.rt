@@ -4,8 +4,7 @@
 ghost use Rattle.std.specs.Prelude.{◌≡◌, length};
 ghost use Rattle.md_lines_meaning.specs.Burst as bursts;
 
-use base::refusals::{NO_ROOM, TOO_LONG};
-use base::{Cause, Counted, not_counted};
+use base::{Cause, Refusal, refuse};
 use md::tables::check_lent;
 use ratio::DETECTORS;
 use ratio::telling::NUMBERS_SHOWN;
@@ -30,22 +29,18 @@ pub fn score_lines(
     classes: &[u8],
     pairs: &[u8],
     out: &mut [u32],
-) -> Counted
+) -> Result<u32, Refusal>
     ensures value { result ≡ bursts.answer bytes.now threshold classes.now pairs.now (length out.old) }
     ensures out_after { out.new ≡ bursts.out_after bytes.now threshold classes.now pairs.now out.old }
 {
     if LONGEST_BURST < bytes.len() {
-        return not_counted(TOO_LONG, 0);
+        return refuse(Cause::TooLong, 0);
     }
-    match check_lent(threshold, classes, pairs) {
-        Cause::Refused(why) => Counted::Refused(why),
-        Cause::Allowed => {
-            let count = count_lines(bytes);
-            if out.len() < NUMBERS_PER_LINE * count {
-                return not_counted(NO_ROOM, 0);
-            }
-            put_rows(bytes, threshold, classes, pairs, out);
-            Counted::Count(count as u32)
-        }
+    check_lent(threshold, classes, pairs)?;
+    let count = count_lines(bytes);
+    if out.len() < NUMBERS_PER_LINE * count {
+        return refuse(Cause::NoRoom, 0);
     }
+    put_rows(bytes, threshold, classes, pairs, out);
+    Ok(count as u32)
 }

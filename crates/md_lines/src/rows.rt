@@ -1,7 +1,6 @@
 // The score of each line, put into its place in the output.
-ghost use Rattle.std.specs.Prelude.{◌≡◌, ◌+◌, ◌*◌, ◌≤◌, length};
+ghost use Rattle.std.specs.Prelude.{◌≡◌, ◌+◌, ◌*◌, ◌≤◌, length, Ok};
 ghost use Rattle.base.specs.Limits.{LONGEST_TEXT};
-ghost use Rattle.base.specs.declared.Cause.TheVariants.{Allowed};
 ghost use Rattle.base.specs.Put.{put};
 ghost use Rattle.md_meaning.specs.Inner.Lent.{bad_lent};
 ghost use Rattle.md_utf8.specs.Inner.Lendable.{Lendable};
@@ -12,10 +11,10 @@ ghost use Rattle.md_lines_meaning.specs.Burst as bursts;
 use crate::NUMBERS_PER_LINE;
 use crate::row::{put_row, row_of};
 use crate::split::end_of_line;
-use base::Counted;
+use base::Refusal;
 use class_builtin::Table;
 use classes::HINTS;
-use md_meaning::Scored;
+use md_meaning::Score;
 use md_utf8::rooms::{score_larger, score_taken, through};
 
 // Places of the room that is lent to each line: a line of so many bytes is read in one pass.
@@ -30,23 +29,19 @@ fn score_line(
     classes: &[u8],
     pairs: &[u8],
     room: &mut [u32],
-) -> Scored
+) -> Result<Score, Refusal>
     requires { Lendable threshold table.now classes.now pairs.now × (length room.old ≤ LONGEST_TEXT) }
     ensures { result ≡ mess_ratio_utf8 line.now threshold classes.now pairs.now }
 {
     if line.len() <= room.len() {
         return score_taken(line, room, threshold, hints, table, classes, pairs);
     }
-    match utf8::count_utf8(line) {
-        Counted::Refused(why) => Scored::Refused(why),
-        Counted::Count(count) => {
-            let n = count as usize;
-            if n <= room.len() {
-                return through(line, n, room, threshold, hints, table, classes, pairs);
-            }
-            score_larger(line, n, threshold, hints, table, classes, pairs)
-        }
+    let count = utf8::count_utf8(line)?;
+    let n = count as usize;
+    if n <= room.len() {
+        return through(line, n, room, threshold, hints, table, classes, pairs);
     }
+    score_larger(line, n, threshold, hints, table, classes, pairs)
 }
 
 // Puts the row of one line into out from a place on.
@@ -70,7 +65,7 @@ fn put_line(
 
 // Puts the rows of the lines into the first places of an output that has room.
 pub fn put_rows(bytes: &[u8], threshold: f32, classes: &[u8], pairs: &[u8], out: &mut [u32])
-    requires { (length bytes.now ≤ bursts.LONGEST_BURST) × (bad_lent threshold classes.now pairs.now ≡ Allowed) × (bursts.NUMBERS_PER_LINE * length (lines_of bytes.now) ≤ length out.old) }
+    requires { (length bytes.now ≤ bursts.LONGEST_BURST) × (bad_lent threshold classes.now pairs.now ≡ Ok tt) × (bursts.NUMBERS_PER_LINE * length (lines_of bytes.now) ≤ length out.old) }
     ensures { out.new ≡ put out.old 0 (bursts.rows threshold classes.now pairs.now (lines_of bytes.now)) }
 {
     let table = class_builtin::table();
@@ -78,6 +73,7 @@ pub fn put_rows(bytes: &[u8], threshold: f32, classes: &[u8], pairs: &[u8], out:
     let mut room = [0u32; ROOM];
     let mut from = 0;
     let mut at = 0;
+    // Stays a while: a turn takes one line, as long as it is.
     while from < bytes.len() {
         let end = end_of_line(bytes, from);
         put_line(

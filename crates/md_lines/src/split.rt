@@ -4,8 +4,6 @@ ghost use Rattle.md_lines_meaning.specs.Lines.{lines_of};
 ghost use Rattle.md_lines_meaning.specs.Inner.Lines.{BLOCK, Passing, LineEnd, ends_of, no_end_on};
 ghost use Rattle.md_lines_meaning.specs.Burst as bursts;
 
-use base::{one, wide};
-
 // The byte at which a line ends.
 const LINE_END: u8 = 0x0A;
 
@@ -32,14 +30,14 @@ fn past_line_eights(b: &[u8], from: usize) -> usize
     requires { from ≤ length b.now }
     ensures { Passing b.now from result }
 {
-    let mut j = from;
-    while 8 <= b.len() - j {
+    let eights = (b.len() - from) / 8;
+    for k in 0..eights {
+        let j = from + 8 * k;
         if !eight_in_line(b, j) {
             return j;
         }
-        j += 8;
     }
-    j
+    from + 8 * eights
 }
 
 // Where the line that begins at `from` ends: at the first 0A, or at the end of the bytes.
@@ -47,14 +45,12 @@ pub fn end_of_line(bytes: &[u8], from: usize) -> usize
     requires { from ≤ length bytes.now }
     ensures { LineEnd bytes.now from result }
 {
-    let mut j = past_line_eights(bytes, from);
-    while j < bytes.len() {
+    for j in past_line_eights(bytes, from)..bytes.len() {
         if bytes[j] == LINE_END {
             return j;
         }
-        j += 1;
     }
-    j
+    bytes.len()
 }
 
 // How many of so few bytes end a line. A plain sum with no way out of the loop, in a byte, so that the compiler adds sixteen at a time.
@@ -63,10 +59,8 @@ fn ends_in_block(bytes: &[u8]) -> u8
     ensures { result ≡ ends_of bytes.now }
 {
     let mut n = 0;
-    let mut i = 0;
-    while i < bytes.len() {
-        n += one(bytes[i] == LINE_END) as u8;
-        i += 1;
+    for b in bytes {
+        n += u8::from(*b == LINE_END);
     }
     n
 }
@@ -77,13 +71,10 @@ fn count_ends(bytes: &[u8]) -> u32
     ensures { result ≡ ends_of bytes.now }
 {
     let mut n = 0;
-    let mut i = 0;
-    while BLOCK <= bytes.len() - i {
-        let next = i + BLOCK;
-        n += wide(ends_in_block(&bytes[i..next]));
-        i = next;
+    for block in bytes.chunks(BLOCK) {
+        n += u32::from(ends_in_block(block));
     }
-    n + wide(ends_in_block(&bytes[i..bytes.len()]))
+    n
 }
 
 // The number of lines: the ends, and one more where the last byte is none.
@@ -92,11 +83,9 @@ pub fn count_lines(bytes: &[u8]) -> usize
     ensures { result ≡ length (lines_of bytes.now) }
 {
     let ends = count_ends(bytes) as usize;
-    if bytes.len() == 0 {
-        return 0;
+    match bytes.last() {
+        None => 0,
+        Some(&LINE_END) => ends,
+        Some(_) => ends + 1,
     }
-    if bytes[bytes.len() - 1] == LINE_END {
-        return ends;
-    }
-    ends + 1
 }

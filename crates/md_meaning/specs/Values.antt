@@ -2,15 +2,15 @@
 -- and values for each case of the enum." An accepted text has number 0 and place 0 ("A place not named is 0"); "Any refusal gives +0.0, false
 -- and counts of 0"; of the counts beside each ratio, "In a refusal they are zero and false" (02 [7]).
 -- Assumes nothing.
-use Rattle.std.specs.Prelude.{ℕ, Bool, false, Float}
-use Rattle.base.specs.Refusals.{ACCEPTED}
+use Rattle.std.specs.Prelude.{ℕ, Bool, false, Float, Result, Ok, Err}
+use Rattle.base.specs.declared.Refusal.{Refusal}
+use Rattle.base.specs.Refusals.{ACCEPTED, number_of}
 use Rattle.ratio.specs.declared.Ratios.{Ratios}
 use Rattle.ratio.specs.declared.EightShown.{EightShown}
 use Rattle.ratio.specs.Rounded.{ZERO}
 use Rattle.ratio.specs.Shown.{none_shown}
 use Rattle.ratio.specs.Eight.{no_ratios}
-use Rattle.md_meaning.specs.declared.Scored.{Scored}
-use Rattle.md_meaning.specs.declared.Scored.TheVariants.{Score, Refused}
+use Rattle.md_meaning.specs.declared.Score.{Score}
 
 pub record Values : Type 0 where
   pub number : ℕ
@@ -21,8 +21,8 @@ pub record Values : Type 0 where
   pub stopped : Bool
   pub counts : EightShown
 
-unfoldable pub values : Scored → Values
-values (Score s) =
+unfoldable pub values : Result Score Refusal → Values
+values (Ok s) =
     record {
       number = ACCEPTED;
       place = 0;
@@ -32,9 +32,9 @@ values (Score s) =
       stopped = s.stopped;
       counts = s.counts;
     }
-values (Refused r) =
+values (Err r) =
     record {
-      number = r.number;
+      number = number_of r.cause;
       place = r.place;
       ratios = no_ratios;
       sum = ZERO;

@@ -4,13 +4,6 @@
 use base::Refusal;
 use ratio::{EightShown, Ratios};
 
-// When a scan stops early: where the sum is at or above a threshold at a checkpoint, or never.
-#[derive(Clone, Copy)]
-pub enum Limit {
-    Threshold(f32),
-    Never,
-}
-
 // What 01's score answer holds: the eight ratios, their sum, the characters fed, and whether the scan stopped early; and 02's counts of each ratio.
 #[derive(Clone, Copy)]
 pub struct Score {
@@ -19,10 +12,4 @@ pub struct Score {
     pub fed: u32,
     pub stopped: bool,
     pub counts: EightShown,
-}
-
-#[derive(Clone, Copy)]
-pub enum Scored {
-    Score(Score),
-    Refused(Refusal),
 }

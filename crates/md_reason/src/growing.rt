@@ -14,7 +14,7 @@ ghost use Rattle.md_growth.specs.Text.{growth_of, grows, watched_at};
 use base::limits::NEWLINE;
 use base::one;
 use class_builtin::Table;
-use classes::{Class, Found};
+use classes::Class;
 use md_growth::{Growths, Watched};
 
 // The character at i; past the end of the text stands the newline.
@@ -31,8 +31,8 @@ fn fed_class(text: &[u32], i: usize, table: &Table, classes: &[u8]) -> Class
 {
     let point = point_at(text, i);
     match classes::look_up_in(point, table, classes) {
-        Found::At(c) => c,
-        Found::Nothing => Class {
+        Some(c) => c,
+        None => Class {
             point,
             flags: 0,
             range: 0,
@@ -100,11 +100,9 @@ pub fn count_growths(
 {
     let mut w = Watched::start();
     let mut count = 0;
-    let mut i = 0;
-    while i < n {
+    for i in 0..n {
         w = watched_after(w, text, i, table, classes, pairs);
         count += one(grew_at(w, d, i));
-        i += 1;
     }
     count
 }
@@ -124,15 +122,11 @@ pub fn put_growths(
 {
     let mut w = Watched::start();
     let mut k = 0;
-    let mut i = 0;
-    while i < n {
+    for i in 0..n {
         w = watched_after(w, text, i, table, classes, pairs);
         if grew_at(w, d, i) {
             out[k] = i as u32;
             k += 1;
-            i += 1;
-        } else {
-            i += 1;
         }
     }
 }

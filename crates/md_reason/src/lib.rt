@@ -2,30 +2,23 @@
 #![tactic(auto)]
 
 ghost use Rattle.std.specs.Prelude.{◌≡◌, ◌≤◌, length};
+ghost use Rattle.base.specs.Causes.{refused_at};
 ghost use Rattle.base.specs.Limits.{LONGEST_TEXT};
 ghost use Rattle.classes.specs.Inner.Tables.{Tables};
 ghost use Rattle.ratio.specs.Eight.{DETECTORS};
 ghost use Rattle.md_meaning.specs.Text.{total};
 ghost use Rattle.md_reason_meaning.specs.Reason.{reason_answer, reason_into};
-ghost use Rattle.md_reason_meaning.specs.Inner.Reason.{refused, listed_answer, listed_into};
+ghost use Rattle.md_reason_meaning.specs.Inner.Reason.{listed_answer, listed_into};
 
-use base::Refusal;
-use base::refusals::NO_ROOM;
-use greatest::detector_of;
+use base::{Cause, Refusal, refuse};
+use greatest::{detector_at, detector_of};
 use growing::{count_growths, put_growths};
 use md::mess_ratio;
-use md_meaning::Scored;
-use md_reason_meaning::{Reasoned, Why};
+use md_reason_meaning::Why;
 
 mod greatest;
 mod growing;
 pub mod utf8_bytes;
-
-fn unreasoned(number: u32, place: u32) -> Reasoned
-    ensures { result ≡ refused number place }
-{
-    Reasoned::Refused(Refusal { number, place })
-}
 
 // The indexes of a detector among the characters fed, into the first places of out. They are counted first, so that nothing is written where they have no room.
 fn list_growths(
@@ -35,7 +28,7 @@ fn list_growths(
     classes: &[u8],
     pairs: &[u8],
     out: &mut [u32],
-) -> Reasoned
+) -> Result<Why, Refusal>
     requires { Tables classes.now pairs.now × (length text.now ≤ LONGEST_TEXT) × (fed ≤ total text.now) × (d ≤ DETECTORS) }
     ensures value { result ≡ listed_answer classes.now pairs.now text.now d fed (length out.old) }
     ensures out_after { out.new ≡ listed_into classes.now pairs.now text.now d fed out.old }
@@ -43,10 +36,13 @@ fn list_growths(
     let table = class_builtin::table();
     let count = count_growths(text, fed as usize, d, &table, classes, pairs);
     if out.len() < count as usize {
-        return unreasoned(NO_ROOM, 0);
+        return refuse(Cause::NoRoom, 0);
     }
     put_growths(text, fed as usize, d, &table, classes, pairs, out);
-    Reasoned::Told(Why { detector: d, count })
+    Ok(Why {
+        detector: detector_at(d),
+        count,
+    })
 }
 
 // Which detector has the greatest ratio of the text's score, and in the first places of out where its numerator grew; the rest of out stays, and all
@@ -57,14 +53,10 @@ pub fn reason(
     classes: &[u8],
     pairs: &[u8],
     out: &mut [u32],
-) -> Reasoned
+) -> Result<Why, Refusal>
     ensures value { result ≡ reason_answer text.now threshold classes.now pairs.now (length out.old) }
     ensures out_after { out.new ≡ reason_into text.now threshold classes.now pairs.now out.old }
 {
-    match mess_ratio(text, threshold, classes, pairs) {
-        Scored::Refused(why) => Reasoned::Refused(why),
-        Scored::Score(s) => {
-            list_growths(text, s.fed, detector_of(s.ratios), classes, pairs, out)
-        }
-    }
+    let s = mess_ratio(text, threshold, classes, pairs)?;
+    list_growths(text, s.fed, detector_of(s.ratios), classes, pairs, out)
 }

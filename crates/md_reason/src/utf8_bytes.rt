@@ -6,9 +6,9 @@ ghost use Rattle.md_reason_meaning.specs.Reason.{reason_answer, reason_into};
 ghost use Rattle.md_reason_meaning.specs.ReasonUtf8.{utf8_answer, utf8_into};
 
 use crate::reason;
-use base::Counted;
+use base::Refusal;
 use base::limits::LONGEST_TEXT;
-use md_reason_meaning::Reasoned;
+use md_reason_meaning::Why;
 
 // The text of the bytes, n code points, put into the first places of room, and its reason.
 fn reason_through(
@@ -19,7 +19,7 @@ fn reason_through(
     classes: &[u8],
     pairs: &[u8],
     out: &mut [u32],
-) -> Reasoned
+) -> Result<Why, Refusal>
     requires { Readable bytes.now n × (n ≤ length room.old) }
     ensures value { result ≡ reason_answer (text_of bytes.now) threshold classes.now pairs.now (length out.old) }
     ensures out_after { out.new ≡ reason_into (text_of bytes.now) threshold classes.now pairs.now out.old }
@@ -36,7 +36,7 @@ fn reason_read(
     classes: &[u8],
     pairs: &[u8],
     out: &mut [u32],
-) -> Reasoned
+) -> Result<Why, Refusal>
     requires { Readable bytes.now n }
     ensures value { result ≡ reason_answer (text_of bytes.now) threshold classes.now pairs.now (length out.old) }
     ensures out_after { out.new ≡ reason_into (text_of bytes.now) threshold classes.now pairs.now out.old }
@@ -52,14 +52,10 @@ pub fn reason_utf8(
     classes: &[u8],
     pairs: &[u8],
     out: &mut [u32],
-) -> Reasoned
+) -> Result<Why, Refusal>
     ensures value { result ≡ utf8_answer bytes.now threshold classes.now pairs.now (length out.old) }
     ensures out_after { out.new ≡ utf8_into bytes.now threshold classes.now pairs.now out.old }
 {
-    match utf8::count_utf8(bytes) {
-        Counted::Refused(why) => Reasoned::Refused(why),
-        Counted::Count(count) => {
-            reason_read(bytes, count as usize, threshold, classes, pairs, out)
-        }
-    }
+    let count = utf8::count_utf8(bytes)?;
+    reason_read(bytes, count as usize, threshold, classes, pairs, out)
 }

@@ -3,20 +3,19 @@
 -- numerator grows is told by the scan's own steps (md_growth, Text: grows). Detector 0 has no numerator, so that its list is empty. "Refusals: as scoring, then 3 if
 -- the buffer holds fewer than the list."
 -- Assumes nothing.
-use Rattle.std.specs.Prelude.{ℕ, List, [], ◌∷◌, ◌++◌, ltb, Float, length}
-use Rattle.base.specs.declared.Cause.{Cause}
-use Rattle.base.specs.declared.Cause.TheVariants.{Allowed, Refused}
+use Rattle.std.specs.Prelude.{ℕ, List, [], ◌∷◌, ◌++◌, ltb, Float, length, Result, Ok, Err, ⊤}
+use Rattle.base.specs.declared.Refusal.{Refusal}
 use Rattle.base.specs.Causes.{given, first_of}
 use Rattle.base.specs.Counted.{lent_after}
-use Rattle.base.specs.Refusals.{ACCEPTED, NO_ROOM}
+use Rattle.base.specs.Refusals.{ACCEPTED, number_of}
+use Rattle.base.specs.declared.refusals.Cause.TheVariants.{NoRoom}
 use Rattle.cd_order.specs.Chosen.{passing}
 use Rattle.md_meaning.specs.MessRatio.{of_scoring, mess_ratio}
 use Rattle.md_meaning.specs.Values as score
 use Rattle.md_growth.specs.Text.{grows}
-use Rattle.md_reason_meaning.specs.declared.Reasoned.{Reasoned}
-use Rattle.md_reason_meaning.specs.declared.Reasoned.TheVariants.{Told, Refused as Untold}
 use Rattle.md_reason_meaning.specs.declared.Why.{Why}
 use Rattle.md_reason_meaning.specs.Greatest.{detector_of}
+use Rattle.md_reason_meaning.specs.Numbered.{detector_at, detector_number}
 
 module _ (text : List ℕ) (threshold : Float) (classes pairs : List ℕ) where
   -- how many characters the score says were fed, and the detector by its ratios
@@ -32,26 +31,26 @@ module _ (text : List ℕ) (threshold : Float) (classes pairs : List ℕ) where
 
   -- what an accepted call answers
   abbrev pub told : Why
-  told = record { detector = detector; count = length indexes }
+  told = record { detector = detector_at detector; count = length indexes }
 
 -- 3: "if the buffer holds fewer than the list"
-unfoldable pub no_room : List ℕ → ℕ → Cause
-no_room list room = given (ltb room (length list)) NO_ROOM 0
+unfoldable pub no_room : List ℕ → ℕ → Result ⊤ Refusal
+no_room list room = given (ltb room (length list)) NoRoom 0
 
 -- the reason where no cause is there, else the refusal
-unfoldable pub reason_unless : Cause → Why → Reasoned
-reason_unless Allowed why = Told why
-reason_unless (Refused r) why = Untold r
+unfoldable pub reason_unless : Result ⊤ Refusal → Why → Result Why Refusal
+reason_unless (Ok u) why = Ok why
+reason_unless (Err r) why = Err r
 
 -- "as scoring, then 3"
-abbrev pub of_reason : List ℕ → Float → List ℕ → List ℕ → ℕ → List Cause
+abbrev pub of_reason : List ℕ → Float → List ℕ → List ℕ → ℕ → List (Result ⊤ Refusal)
 of_reason text threshold classes pairs room = of_scoring text threshold classes pairs ++ (no_room (indexes text threshold classes pairs) room ∷ [])
 
-unfoldable pub reason_causes : List ℕ → Float → List ℕ → List ℕ → ℕ → Cause
+unfoldable pub reason_causes : List ℕ → Float → List ℕ → List ℕ → ℕ → Result ⊤ Refusal
 reason_causes text threshold classes pairs room =
     first_of (of_reason text threshold classes pairs room)
 
-unfoldable pub reason_answer : List ℕ → Float → List ℕ → List ℕ → ℕ → Reasoned
+unfoldable pub reason_answer : List ℕ → Float → List ℕ → List ℕ → ℕ → Result Why Refusal
 reason_answer text threshold classes pairs room =
     reason_unless (reason_causes text threshold classes pairs room) (told text threshold classes pairs)
 
@@ -67,6 +66,6 @@ pub record Values : Type 0 where
   pub count : ℕ
 
 -- "Any refusal gives .. counts of 0" (01)
-unfoldable pub values : Reasoned → Values
-values (Told why) = record { number = ACCEPTED; place = 0; detector = why.detector; count = why.count }
-values (Untold r) = record { number = r.number; place = r.place; detector = 0; count = 0 }
+unfoldable pub values : Result Why Refusal → Values
+values (Ok why) = record { number = ACCEPTED; place = 0; detector = detector_number why.detector; count = why.count }
+values (Err r) = record { number = number_of r.cause; place = r.place; detector = 0; count = 0 }

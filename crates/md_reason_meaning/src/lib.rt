@@ -3,15 +3,22 @@
 
 use base::Refusal;
 
-// The detector, 1 to 8 in md.rs's order or 0 where the greatest ratio is 0, and how many indexes were listed.
-#[derive(Clone, Copy)]
-pub struct Why {
-    pub detector: u32,
-    pub count: u32,
+// The eight detectors in md.rs's order, each by its number.
+#[derive(Clone, Copy, Debug, PartialEq, Eq)]
+pub enum Detector {
+    Symbols = 1,
+    Accents = 2,
+    Unprintable = 3,
+    Ranges = 4,
+    Doubled = 5,
+    Words = 6,
+    Stops = 7,
+    Archaic = 8,
 }
 
+// The detector, none where the greatest ratio is 0, and how many indexes were listed.
 #[derive(Clone, Copy)]
-pub enum Reasoned {
-    Told(Why),
-    Refused(Refusal),
+pub struct Why {
+    pub detector: Option<Detector>,
+    pub count: u32,
 }

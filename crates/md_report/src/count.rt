@@ -114,10 +114,8 @@ pub fn bins_of(rows: &[u32], d: usize) -> [u32; BINS]
 {
     let lines = lines_in(rows);
     let mut counts = [0u32; BINS];
-    let mut i = 0;
-    while i < lines {
+    for i in 0..lines {
         add_line(&mut counts, rows, d, i);
-        i += 1;
     }
     counts
 }
@@ -148,10 +146,8 @@ pub fn kinds_of(rows: &[u32]) -> [u32; KINDS]
 {
     let lines = lines_in(rows);
     let mut counts = [0u32; KINDS];
-    let mut i = 0;
-    while i < lines {
+    for i in 0..lines {
         add_kind(&mut counts, rows, i);
-        i += 1;
     }
     counts
 }
@@ -162,10 +158,8 @@ pub fn refused_in(kinds: &[u32; KINDS]) -> u32
     ensures { result ≡ sum_to (λ k. get_or kinds.now (k + 1) 0) OTHER }
 {
     let mut sum = 0;
-    let mut k = 0;
-    while k < OTHER {
-        sum += kinds[k + 1];
-        k += 1;
+    for n in &kinds[1..] {
+        sum += *n;
     }
     sum
 }

@@ -8,8 +8,7 @@ mod text;
 ghost use Rattle.std.specs.Prelude.{◌≡◌, length};
 ghost use Rattle.md_report_meaning.specs.Report.{report_answer, report_into};
 
-use base::refusals::{MANY_LINES, NO_ROOM};
-use base::{Counted, not_counted};
+use base::{Cause, Refusal, refuse};
 use count::lines_in;
 use pieces::put_piece;
 use ratio::DETECTORS;
@@ -28,18 +27,18 @@ pub const MOST_LINES: usize = 65535;
 pub const LONGEST_REPORT: usize = 40336;
 
 // The text of the rows in the first places of out; the rest of out stays, and all of it in a refusal. Answers the bytes of the text.
-pub fn report(rows: &[u32], out: &mut [u8]) -> Counted
+pub fn report(rows: &[u32], out: &mut [u8]) -> Result<u32, Refusal>
     ensures value { result ≡ report_answer rows.now (length out.old) }
     ensures out_after { out.new ≡ report_into rows.now out.old }
 {
     if MOST_LINES < lines_in(rows) {
-        return not_counted(MANY_LINES, 0);
+        return refuse(Cause::ManyLines, 0);
     }
     let mut text = [0u8; LONGEST_REPORT];
     let n = write_report(rows, &mut text);
     if out.len() < n {
-        return not_counted(NO_ROOM, 0);
+        return refuse(Cause::NoRoom, 0);
     }
     put_piece(out, 0, &text[..n]);
-    Counted::Count(n as u32)
+    Ok(n as u32)
 }

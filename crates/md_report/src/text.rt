@@ -33,10 +33,8 @@ fn put_bins(out: &mut [u8], at: usize, detector: u32, counts: &[u32; BINS]) -> u
     ensures { Goes out.old out.new at (bin_lines detector counts.now) result }
 {
     let mut next = at;
-    let mut k = 0;
-    while k < BINS {
-        next = put_bin(out, next, detector, k as u32, counts[k]);
-        k += 1;
+    for (k, n) in counts.iter().enumerate() {
+        next = put_bin(out, next, detector, k as u32, *n);
     }
     next
 }
@@ -47,11 +45,9 @@ fn put_detectors(out: &mut [u8], rows: &[u32]) -> usize
     ensures { Goes out.old out.new 0 (joined (detector_text rows.now) DETECTORS) result }
 {
     let mut at = 0;
-    let mut d = 0;
-    while d < DETECTORS {
+    for d in 0..DETECTORS {
         let counts = bins_of(rows, d);
         at = put_bins(out, at, d as u32 + 1, &counts);
-        d += 1;
     }
     at
 }

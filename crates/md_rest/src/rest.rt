@@ -19,15 +19,13 @@ pub fn past_within(text: &[u32], from: usize, end: usize, low: u32, high: u32) -
     requires { (from ≤ end) × (end ≤ length text.now) }
     ensures { Past text.now low high from end result }
 {
-    let mut i = from;
-    while i < end {
+    for i in from..end {
         let p = text[i];
         if (p < low) | (high < p) {
             return i;
         }
-        i += 1;
     }
-    i
+    end
 }
 
 // Whether the built-in table has all characters from `from` to `end`. With no early exit, so that the compiler takes several at a time.
@@ -36,10 +34,8 @@ pub fn all_builtin(text: &[u32], from: usize, end: usize) -> bool
     ensures { Builtin result text.now from end }
 {
     let mut all = true;
-    let mut i = from;
-    while i < end {
+    for i in from..end {
         all = all & (text[i] < BUILTIN_END);
-        i += 1;
     }
     all
 }
@@ -84,6 +80,7 @@ fn unclassed_within(
     ensures { Walked classes.now text.now from end result }
 {
     let mut i = from;
+    // Stays a while: a turn passes as many characters as one record holds, one or all.
     while i < end {
         let next = past_classed(text, i, end, hints, classes);
         if next == i {
@@ -133,6 +130,7 @@ pub fn unclassed_from(
     ensures { result ≡ first_from (unclassed classes.now text.now) (total text.now) from }
 {
     let mut i = from;
+    // Stays a while: a turn passes a block, and what is left of the text may be shorter than one.
     while i < text.len() {
         let end = block_end(text.len(), i);
         let bad = unclassed_in(text, i, end, hints, classes);

@@ -24,12 +24,9 @@ fn sizes(classes: &[u8]) -> u32
     requires { good_table classes.now ≡ true }
     ensures { result ≡ sizes_before classes.now (records classes.now) }
 {
-    let n = classes.len() / CLASS_RECORD;
-    let mut i = 0;
     let mut sum = 0;
-    while i < n {
+    for i in 0..classes.len() / CLASS_RECORD {
         sum += last_of(classes, i) + 1 - first_of(classes, i);
-        i += 1;
     }
     sum
 }
@@ -39,11 +36,9 @@ fn all_valued(text: &[u32], from: usize) -> bool
     ensures { Valued result text.now from (length text.now) }
 {
     let mut all = true;
-    let mut i = from;
-    while i < text.len() {
+    for i in from..text.len() {
         let p = text[i];
         all = all & ((p < SURROGATE_FIRST) | ((SURROGATE_LAST < p) & (p <= LAST_POINT)));
-        i += 1;
     }
     all
 }
@@ -68,6 +63,7 @@ fn past_builtin(text: &[u32], from: usize) -> usize
     ensures { Passed text.now from result }
 {
     let mut i = from;
+    // Stays a while: a turn passes a block, and what is left of the text may be shorter than one.
     while i < text.len() {
         let end = block_end(text.len(), i);
         if !all_builtin(text, i, end) {

@@ -6,9 +6,7 @@ ghost use Rattle.md_running_meaning.specs.Inner.Chunk.{Chunk};
 
 use crate::state::is_unsound;
 use crate::step::{take, unfed};
-use base::refusals::{BAD_STATE, UNCLASSED};
-use base::{Counted, Refusal};
-use classes::Found;
+use base::{Cause, Refusal};
 use md_running_meaning::{Fed, Running};
 
 // Feeds each character in turn. The state given is still there where one of them is refused.
@@ -18,31 +16,29 @@ pub fn feed_each(s: Running, text: &[u32], classes: &[u8], pairs: &[u8]) -> Fed
 {
     let table = class_builtin::table();
     let mut t = s;
-    let mut i = 0;
-    while i < text.len() {
+    for p in text {
         if is_unsound(t) {
             return unfed(
                 s,
                 Refusal {
-                    number: BAD_STATE,
+                    cause: Cause::BadState,
                     place: 0,
                 },
             );
         }
-        let Found::At(c) = classes::look_up_in(text[i], &table, classes) else {
+        let Some(c) = classes::look_up_in(*p, &table, classes) else {
             return unfed(
                 s,
                 Refusal {
-                    number: UNCLASSED,
+                    cause: Cause::Unclassed,
                     place: t.received,
                 },
             );
         };
         t = take(t, c, pairs);
-        i += 1;
     }
     Fed {
         state: t,
-        answer: Counted::Count(t.received),
+        answer: Ok(t.received),
     }
 }

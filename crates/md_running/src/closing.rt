@@ -9,13 +9,12 @@ ghost use Rattle.md_running_meaning.specs.Inner.Sound.{Sound};
 use crate::over::over_at;
 use base::flags::{ASCII, SEPARATOR, WHITESPACE};
 use base::limits::NEWLINE;
-use base::refusals::LINE_SHORT;
+use base::{Cause, Refusal, refuse};
 use classes::Class;
 use md::scan::scored;
-use md::unscored;
 use md_eight::Detectors;
 use md_growth::fed_watched;
-use md_meaning::Scored;
+use md_meaning::Score;
 use md_running_meaning::Running;
 
 // The class of the newline, which the built-in table has: no table is lent to a closing.
@@ -40,12 +39,12 @@ fn ended(s: Running) -> Detectors
 }
 
 // The answer, the state being checked.
-pub fn close_sound(s: Running) -> Scored
+pub fn close_sound(s: Running) -> Result<Score, Refusal>
     requires { Sound s }
     ensures { result ≡ unless (closings.line_short s) (closings.closed s) }
 {
     if s.received < s.length {
-        return unscored(LINE_SHORT, 0);
+        return refuse(Cause::LineShort, 0);
     }
     if s.stopped {
         return scored(s.watched.eight, s.fed, true);

@@ -9,14 +9,13 @@ ghost use Rattle.md_running_meaning.specs.Chunk.{feed_chunk};
 ghost use Rattle.md_running_meaning.specs.Closing as closing;
 
 use base::limits::LONGEST_TEXT;
-use base::refusals::TOO_LONG;
-use base::{Cause, Counted, Refusal};
+use base::{Cause, Refusal, refuse};
 use chunk::feed_each;
 use closing::close_sound;
 use md::tables::check_lent;
 use md_growth::Watched;
-use md_meaning::Scored;
-use md_running_meaning::{Fed, Opened, Running};
+use md_meaning::Score;
+use md_running_meaning::{Fed, Running};
 use state::bad_state;
 use step::{check_feed, feed_checked, fresh_line, unfed};
 
@@ -27,19 +26,19 @@ mod state;
 mod step;
 
 // A line of `length` characters of which none has arrived.
-pub fn open_line(length: u32, threshold: f32, classes: &[u8], pairs: &[u8]) -> Opened
+pub fn open_line(
+    length: u32,
+    threshold: f32,
+    classes: &[u8],
+    pairs: &[u8],
+) -> Result<Running, Refusal>
     ensures { result ≡ opening.open_line length threshold classes.now pairs.now }
 {
     if length as usize > LONGEST_TEXT {
-        return Opened::Refused(Refusal {
-            number: TOO_LONG,
-            place: 0,
-        });
+        return refuse(Cause::TooLong, 0);
     }
-    match check_lent(threshold, classes, pairs) {
-        Cause::Refused(why) => Opened::Refused(why),
-        Cause::Allowed => Opened::Running(fresh_line(length, threshold)),
-    }
+    check_lent(threshold, classes, pairs)?;
+    Ok(fresh_line(length, threshold))
 }
 
 // One character of a line.
@@ -47,8 +46,8 @@ pub fn feed_line(state: Running, point: u32, classes: &[u8], pairs: &[u8]) -> Fe
     ensures { result ≡ feeding.feed_line state point classes.now pairs.now }
 {
     match check_feed(state, 1, classes, pairs) {
-        Cause::Refused(why) => unfed(state, why),
-        Cause::Allowed => feed_checked(state, point, classes, pairs),
+        Err(why) => unfed(state, why),
+        Ok(()) => feed_checked(state, point, classes, pairs),
     }
 }
 
@@ -57,17 +56,15 @@ pub fn feed_chunk(state: Running, text: &[u32], classes: &[u8], pairs: &[u8]) ->
     ensures { result ≡ feed_chunk state text.now classes.now pairs.now }
 {
     match check_feed(state, text.len(), classes, pairs) {
-        Cause::Refused(why) => unfed(state, why),
-        Cause::Allowed => feed_each(state, text, classes, pairs),
+        Err(why) => unfed(state, why),
+        Ok(()) => feed_each(state, text, classes, pairs),
     }
 }
 
 // The answer of a line that has arrived in full.
-pub fn close_line(state: Running) -> Scored
+pub fn close_line(state: Running) -> Result<Score, Refusal>
     ensures { result ≡ closing.close_line state }
 {
-    match bad_state(state) {
-        Cause::Refused(why) => Scored::Refused(why),
-        Cause::Allowed => close_sound(state),
-    }
+    bad_state(state)?;
+    close_sound(state)
 }

@@ -1,8 +1,7 @@
 // Whether a line stops, asked here and not of md's scan: the scan's own test must have one place from which it is called, else it goes out of line and
 // the state with it into memory.
-ghost use Rattle.std.specs.Prelude.{◌≡◌, ◌&&◌};
+ghost use Rattle.std.specs.Prelude.{◌≡◌, ◌&&◌, Some};
 ghost use Rattle.md_eight.specs.Inner.Detectors.{Countable};
-ghost use Rattle.md_meaning.specs.declared.Limit.TheVariants.{Threshold};
 ghost use Rattle.md_meaning.specs.Text.{checkpoint};
 ghost use Rattle.md_meaning.specs.Scan.{reaches, sum_of};
 
@@ -36,7 +35,7 @@ fn line_checkpoint(n: usize, i: usize) -> bool
 // Whether a line of n characters stops after the one at i.
 pub fn over_at(s: Detectors, n: usize, i: usize, threshold: f32) -> bool
     requires { Countable s }
-    ensures { result ≡ (checkpoint n i && reaches (Threshold threshold) (sum_of s)) }
+    ensures { result ≡ (checkpoint n i && reaches (Some threshold) (sum_of s)) }
 {
     if line_checkpoint(n, i) {
         return threshold <= rounding::sum(s.ratios());

@@ -3,8 +3,7 @@ ghost use Rattle.std.specs.Prelude.{◌≡◌};
 ghost use Rattle.md_running_meaning.specs.State.{counts_in, any_above, unsound, bad_state};
 
 use base::limits::{LAST_RANGE, LONGEST_TEXT};
-use base::refusals::BAD_STATE;
-use base::{Cause, refuse};
+use base::{Cause, Refusal, refuse};
 use md_running_meaning::Running;
 use ratio::finite::is_finite;
 
@@ -53,10 +52,8 @@ fn any_above(list: &[u32], most: u32) -> bool
     ensures { result ≡ any_above most list.now }
 {
     let mut above = false;
-    let mut k = 0;
-    while k < list.len() {
-        above = above | (most < list[k]);
-        k += 1;
+    for x in list {
+        above |= most < *x;
     }
     above
 }
@@ -82,11 +79,11 @@ pub fn is_unsound(s: Running) -> bool
 }
 
 // Why a state is refused, if it is.
-pub fn bad_state(s: Running) -> Cause
+pub fn bad_state(s: Running) -> Result<(), Refusal>
     ensures { result ≡ bad_state s }
 {
     if is_unsound(s) {
-        return refuse(BAD_STATE, 0);
+        return refuse(Cause::BadState, 0);
     }
-    Cause::Allowed
+    Ok(())
 }

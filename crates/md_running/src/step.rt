@@ -1,6 +1,5 @@
 // The steps of a line: none has arrived, one more has arrived, and one more is refused.
-ghost use Rattle.std.specs.Prelude.{◌≡◌, ◌+◌};
-ghost use Rattle.base.specs.declared.Cause.TheVariants.{Refused};
+ghost use Rattle.std.specs.Prelude.{◌≡◌, ◌+◌, Err};
 ghost use Rattle.classes.specs.Inner.Tables.{Tables};
 ghost use Rattle.classes.specs.Lookup.{class_of};
 ghost use Rattle.md_meaning.specs.Scan.{class_in};
@@ -11,9 +10,8 @@ ghost use Rattle.md_running_meaning.specs.Inner.Step.{Taking, HasRoom, bad_call}
 
 use crate::over::over_at;
 use crate::state::bad_state;
-use base::refusals::{LINE_FULL, UNCLASSED};
-use base::{Cause, Counted, Refusal, refuse};
-use classes::{Class, Found};
+use base::{Cause, Refusal, refuse};
+use classes::Class;
 use md::tables::check_tables;
 use md_growth::Watched;
 use md_running_meaning::{Fed, Running};
@@ -33,27 +31,23 @@ pub fn fresh_line(length: u32, threshold: f32) -> Running
 }
 
 // Why n more characters are refused before they are looked at: 19, 13, 5, 7.
-pub fn check_feed(s: Running, n: usize, classes: &[u8], pairs: &[u8]) -> Cause
+pub fn check_feed(s: Running, n: usize, classes: &[u8], pairs: &[u8]) -> Result<(), Refusal>
     ensures { result ≡ bad_call s n classes.now pairs.now }
 {
-    match bad_state(s) {
-        Cause::Refused(why) => Cause::Refused(why),
-        Cause::Allowed => {
-            if ((s.length - s.received) as usize) < n {
-                return refuse(LINE_FULL, 0);
-            }
-            check_tables(classes, pairs)
-        }
+    bad_state(s)?;
+    if ((s.length - s.received) as usize) < n {
+        return refuse(Cause::LineFull, 0);
     }
+    check_tables(classes, pairs)
 }
 
 // A refusal, which leaves the state as it is.
 pub fn unfed(s: Running, why: Refusal) -> Fed
-    ensures { result ≡ feeding.fed_unless (Refused why) s s 0 }
+    ensures { result ≡ feeding.fed_unless (Err why) s s 0 }
 {
     Fed {
         state: s,
-        answer: Counted::Refused(why),
+        answer: Err(why),
     }
 }
 
@@ -62,9 +56,10 @@ fn arrived(s: Running) -> Running
     requires { HasRoom s }
     ensures { result ≡ feeding.arrived s }
 {
-    let mut next = s;
-    next.received = s.received + 1;
-    next
+    Running {
+        received: s.received + 1,
+        ..s
+    }
 }
 
 // A character is fed. Its index is the number received before it.
@@ -82,12 +77,11 @@ fn fed_on(s: Running, c: Class, pairs: &[u8]) -> Running
         s.threshold,
     );
     Running {
-        length: s.length,
         received: place,
         fed: place,
-        threshold: s.threshold,
         stopped,
         watched,
+        ..s
     }
 }
 
@@ -109,16 +103,16 @@ pub fn feed_checked(s: Running, point: u32, classes: &[u8], pairs: &[u8]) -> Fed
 {
     let table = class_builtin::table();
     match classes::look_up_in(point, &table, classes) {
-        Found::Nothing => unfed(
+        None => unfed(
             s,
             Refusal {
-                number: UNCLASSED,
+                cause: Cause::Unclassed,
                 place: s.received,
             },
         ),
-        Found::At(c) => Fed {
+        Some(c) => Fed {
             state: take(s, c, pairs),
-            answer: Counted::Count(s.received + 1),
+            answer: Ok(s.received + 1),
         },
     }
 }

@@ -3,12 +3,11 @@
 -- to one that 19 refuses, before one of the characters: that is 19 there too. An accepted chunk leaves exactly what its characters leave one by one
 -- (`chunk_one_by_one`, proofs/Laws/Chunk); the tables are checked once.
 -- Assumes nothing.
-use Rattle.std.specs.Prelude.{ℕ, zero, suc, ◌+◌, Bool, cond, ◌||◌, List, [], ◌∷◌, ltb, length}
-use Rattle.base.specs.declared.Cause.{Cause}
-use Rattle.base.specs.declared.Cause.TheVariants.{Allowed}
+use Rattle.std.specs.Prelude.{ℕ, zero, suc, ◌+◌, Bool, cond, ◌||◌, List, [], ◌∷◌, ltb, length, Result, Ok, ⊤}
+use Rattle.base.specs.declared.Refusal.{Refusal}
 use Rattle.base.specs.Causes.{given, first_of}
 use Rattle.base.specs.First.{first}
-use Rattle.base.specs.Refusals.{UNCLASSED}
+use Rattle.base.specs.declared.refusals.Cause.TheVariants.{Unclassed}
 use Rattle.classes.specs.Check.{bad_classes}
 use Rattle.classes.specs.Pairs.{bad_pairs}
 use Rattle.md_meaning.specs.Text.{char_at}
@@ -33,14 +32,14 @@ module _ (s : Running) (text classes pairs : List ℕ) where
   halt = first halts_at (length text)
 
   -- 19, 6
-  unfoldable pub refusal_at : ℕ → Cause
-  refusal_at k = first_of (bad_state (steps_at k) ∷ given (unclassed classes text k) UNCLASSED (s.received + k) ∷ [])
+  unfoldable pub refusal_at : ℕ → Result ⊤ Refusal
+  refusal_at k = first_of (bad_state (steps_at k) ∷ given (unclassed classes text k) Unclassed (s.received + k) ∷ [])
 
-  unfoldable pub refused_within : Cause
-  refused_within = cond (ltb halt (length text)) (refusal_at halt) Allowed
+  unfoldable pub refused_within : Result ⊤ Refusal
+  refused_within = cond (ltb halt (length text)) (refusal_at halt) (Ok tt)
 
   -- 19, 13, 5, 7, and what is refused within
-  unfoldable pub chunk_causes : Cause
+  unfoldable pub chunk_causes : Result ⊤ Refusal
   chunk_causes = first_of (bad_state s ∷ line_full s (length text) ∷ bad_classes classes ∷ bad_pairs pairs ∷ refused_within ∷ [])
 
   unfoldable pub feed_chunk : Fed

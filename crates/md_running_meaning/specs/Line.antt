@@ -2,8 +2,7 @@
 -- tables each time, the result equals the whole call." And what a state in between is: that of the scan after as many characters, up to the stop, and
 -- that of the stop from then on. The laws are `line_follows` and `line_whole`, in proofs/Laws/Line.
 -- Assumes nothing.
-use Rattle.std.specs.Prelude.{ℕ, zero, suc, ◌+◌, ◌<◌, ◌≡◌, true, false, List, Float, length}
-use Rattle.md_meaning.specs.declared.Limit.TheVariants.{Threshold}
+use Rattle.std.specs.Prelude.{ℕ, zero, suc, ◌+◌, ◌<◌, ◌≡◌, true, false, List, Float, length, Some}
 use Rattle.md_meaning.specs.Text.{char_at}
 use Rattle.md_meaning.specs.Scan.{state_at, stops}
 use Rattle.md_growth.specs.Text.{watched_at}
@@ -20,7 +19,7 @@ module _ (text : List ℕ) (most : Float) (classes pairs : List ℕ) where
 
   -- no checkpoint before k has reached the threshold: the state is the scan's after k characters
   pub record Going (k : ℕ) (s : Running) : Type 0 where
-    pub none : (j : ℕ) → j < k → stops classes pairs text (Threshold most) j ≡ false
+    pub none : (j : ℕ) → j < k → stops classes pairs text (Some most) j ≡ false
     pub stopped : s.stopped ≡ false
     pub fed : s.fed ≡ k
     pub eight : eight_of s ≡ state_at classes pairs text k
@@ -29,8 +28,8 @@ module _ (text : List ℕ) (most : Float) (classes pairs : List ℕ) where
   -- the one at i, before k, has, and none before it: the state is the scan's behind that character
   pub record Stopped (i k : ℕ) (s : Running) : Type 0 where
     pub before : i < k
-    pub here : stops classes pairs text (Threshold most) i ≡ true
-    pub none : (j : ℕ) → j < i → stops classes pairs text (Threshold most) j ≡ false
+    pub here : stops classes pairs text (Some most) i ≡ true
+    pub none : (j : ℕ) → j < i → stops classes pairs text (Some most) j ≡ false
     pub stopped : s.stopped ≡ true
     pub fed : s.fed ≡ i + 1
     pub eight : eight_of s ≡ state_at classes pairs text (i + 1)

@@ -1,20 +1,18 @@
 -- Opening a line (02 [6]): "Opening takes the line's length, which fixes the period, a threshold and good tables"; "Refusals, state unchanged: opening
 -- 1, 4, 5, 7". The state is handed back by value; a refusal has none, which is zeros and false.
 -- Assumes nothing.
-use Rattle.std.specs.Prelude.{ℕ, false, List, [], ◌∷◌, ltb, Float}
-use Rattle.base.specs.declared.Cause.{Cause}
-use Rattle.base.specs.declared.Cause.TheVariants.{Allowed, Refused}
+use Rattle.std.specs.Prelude.{ℕ, false, List, [], ◌∷◌, ltb, Float, Result, Ok, Err, ⊤}
+use Rattle.base.specs.declared.Refusal.{Refusal}
 use Rattle.base.specs.Causes.{given, first_of}
 use Rattle.base.specs.Limits.{LONGEST_TEXT}
-use Rattle.base.specs.Refusals.{ACCEPTED, TOO_LONG}
+use Rattle.base.specs.Refusals.{ACCEPTED, number_of}
+use Rattle.base.specs.declared.refusals.Cause.TheVariants.{TooLong}
 use Rattle.classes.specs.Check.{bad_classes}
 use Rattle.classes.specs.Pairs.{bad_pairs}
 use Rattle.ratio.specs.Finite.{not_finite}
 use Rattle.ratio.specs.Rounded.{ZERO}
 use Rattle.md_growth.specs.Growth.{start, no_growths}
 use Rattle.md_running_meaning.specs.declared.Running.{Running}
-use Rattle.md_running_meaning.specs.declared.Opened.{Opened}
-use Rattle.md_running_meaning.specs.declared.Opened.TheVariants.{Running as Open, Refused as NotOpen}
 
 -- a line of this length of which nothing has arrived
 unfoldable pub fresh : ℕ → Float → Running
@@ -22,20 +20,20 @@ fresh length threshold =
     record { length = length; received = 0; fed = 0; threshold = threshold; stopped = false; watched = start }
 
 -- the state where no cause is there, else the refusal
-unfoldable pub open_unless : Cause → Running → Opened
-open_unless Allowed s = Open s
-open_unless (Refused r) s = NotOpen r
+unfoldable pub open_unless : Result ⊤ Refusal → Running → Result Running Refusal
+open_unless (Ok u) s = Ok s
+open_unless (Err r) s = Err r
 
 -- 1: a line that is too long to be scored
-unfoldable pub long_line : ℕ → Cause
-long_line length = given (ltb LONGEST_TEXT length) TOO_LONG 0
+unfoldable pub long_line : ℕ → Result ⊤ Refusal
+long_line length = given (ltb LONGEST_TEXT length) TooLong 0
 
 -- 1, 4, 5, 7
-unfoldable pub open_causes : ℕ → Float → List ℕ → List ℕ → Cause
+unfoldable pub open_causes : ℕ → Float → List ℕ → List ℕ → Result ⊤ Refusal
 open_causes length threshold classes pairs =
     first_of (long_line length ∷ not_finite threshold ∷ bad_classes classes ∷ bad_pairs pairs ∷ [])
 
-unfoldable pub open_line : ℕ → Float → List ℕ → List ℕ → Opened
+unfoldable pub open_line : ℕ → Float → List ℕ → List ℕ → Result Running Refusal
 open_line length threshold classes pairs = open_unless (open_causes length threshold classes pairs) (fresh length threshold)
 
 -- no line: zeros and false
@@ -79,6 +77,6 @@ pub record Values : Type 0 where
   pub state : Running
 
 -- 01's number and values of each case
-unfoldable pub values : Opened → Values
-values (Open s) = record { number = ACCEPTED; place = 0; state = s }
-values (NotOpen r) = record { number = r.number; place = r.place; state = no_line }
+unfoldable pub values : Result Running Refusal → Values
+values (Ok s) = record { number = ACCEPTED; place = 0; state = s }
+values (Err r) = record { number = number_of r.cause; place = r.place; state = no_line }

@@ -3,11 +3,11 @@
 -- not looked at, and the range is, also where no last character is remembered. What passes is `Sound` (specs/Inner), by the laws of
 -- proofs/Laws/State.
 -- Assumes nothing.
-use Rattle.std.specs.Prelude.{ℕ, ◌*◌, Bool, false, not, ◌||◌, List, [], ◌∷◌, ltb}
-use Rattle.base.specs.declared.Cause.{Cause}
+use Rattle.std.specs.Prelude.{ℕ, ◌*◌, Bool, false, not, ◌||◌, List, [], ◌∷◌, ltb, Result, ⊤}
+use Rattle.base.specs.declared.Refusal.{Refusal}
 use Rattle.base.specs.Causes.{given}
 use Rattle.base.specs.Limits.{LONGEST_TEXT, LAST_RANGE}
-use Rattle.base.specs.Refusals.{BAD_STATE}
+use Rattle.base.specs.declared.refusals.Cause.TheVariants.{BadState}
 use Rattle.ratio.specs.Finite.{is_finite}
 use Rattle.md_eight.specs.declared.Detectors.{Detectors}
 use Rattle.md_eight.specs.Detectors.{last_range}
@@ -66,5 +66,5 @@ unsound s =
     || any_above (TWICE * s.received) (counts_in s))))
 
 -- 19
-unfoldable pub bad_state : Running → Cause
-bad_state s = given (unsound s) BAD_STATE 0
+unfoldable pub bad_state : Running → Result ⊤ Refusal
+bad_state s = given (unsound s) BadState 0

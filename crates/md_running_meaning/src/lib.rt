@@ -1,7 +1,7 @@
 // What the calls of a running line answer (02 [6]): the state and the answers, their definitions and their laws. No function stands here; md_running has those that run.
 #![tactic(auto)]
 
-use base::{Counted, Refusal};
+use base::Refusal;
 use md_growth::Watched;
 
 // A line of which some characters have arrived. `fed` of them were fed; the others came after the scan had stopped.
@@ -15,15 +15,9 @@ pub struct Running {
     pub watched: Watched,
 }
 
-#[derive(Clone, Copy)]
-pub enum Opened {
-    Running(Running),
-    Refused(Refusal),
-}
-
 // The state after a feeding call, which is the one given where the call refused; and the number received, or why it refused.
 #[derive(Clone, Copy)]
 pub struct Fed {
     pub state: Running,
-    pub answer: Counted,
+    pub answer: Result<u32, Refusal>,
 }

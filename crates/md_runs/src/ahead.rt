@@ -32,10 +32,8 @@ fn past_ahead(text: &[u32], from: usize, low: u32, high: u32) -> usize
         return from;
     }
     let mut first = AHEAD;
-    let mut j = 0;
-    while j < AHEAD {
+    for j in 0..AHEAD {
         first = nearer(first, unless_within(text[from + j], low, high, j));
-        j += 1;
     }
     from + first
 }

@@ -76,8 +76,7 @@ pub fn count_symbols(points: &[u32], flags: &[u32], n: usize) -> Counts
     let mut punctuation = 0;
     let mut symbols = 0;
     let mut last = 0;
-    let mut i = 0;
-    while i < n {
+    for i in 0..n {
         let f = flags[i];
         let point = points[i];
         let printable = !is_set(f, UNPRINTABLE);
@@ -86,7 +85,6 @@ pub fn count_symbols(points: &[u32], flags: &[u32], n: usize) -> Counts
         symbols += one(mark & is_plain_symbol(f));
         printed += one(printable);
         last = pick(printable, point, last);
-        i += 1;
     }
     let share = Fraction {
         num: punctuation + SYMBOL_WORTH * symbols,
@@ -102,13 +100,10 @@ pub fn count_accents(flags: &[u32], n: usize) -> Counts
 {
     let mut letters = 0;
     let mut accented = 0;
-    let mut i = 0;
-    while i < n {
-        let f = flags[i];
-        let letter = is_set(f, ALPHABETIC);
+    for f in &flags[..n] {
+        let letter = is_set(*f, ALPHABETIC);
         letters += one(letter);
-        accented += one(letter & is_set(f, ACCENTUATED));
-        i += 1;
+        accented += one(letter & is_set(*f, ACCENTUATED));
     }
     let share = Fraction {
         num: accented,
@@ -126,10 +121,8 @@ pub fn count_unprintable(flags: &[u32], n: usize) -> Counts
     ensures { result ≡ unprintable.counts (after.unprintable_after flags.now n) }
 {
     let mut unprintable = 0;
-    let mut i = 0;
-    while i < n {
-        unprintable += one(is_set(flags[i], UNPRINTABLE));
-        i += 1;
+    for f in &flags[..n] {
+        unprintable += one(is_set(*f, UNPRINTABLE));
     }
     let share = Fraction {
         num: UNPRINTABLE_WORTH * unprintable,
@@ -154,8 +147,7 @@ pub fn count_ranges(flags: &[u32], ranges: &[u32], pairs: &[u8], n: usize) -> Co
     let mut suspicious = 0;
     let mut seen = false;
     let mut last = 0;
-    let mut i = 0;
-    while i < n {
+    for i in 0..n {
         let f = flags[i];
         let range = ranges[i];
         let printable = !is_set(f, UNPRINTABLE);
@@ -164,7 +156,6 @@ pub fn count_ranges(flags: &[u32], ranges: &[u32], pairs: &[u8], n: usize) -> Co
         printed += one(printable);
         seen = follows | (!printable & seen);
         last = pick(follows, range, pick(printable, 0, last));
-        i += 1;
     }
     let share = Fraction {
         num: PAIR_WORTH * suspicious,
@@ -190,19 +181,16 @@ pub fn count_doubled(flags: &[u32], bases: &[u32], n: usize) -> Counts
     let mut doubled = 0;
     let mut last = 0;
     let mut last_base = 0;
-    let mut i = 0;
-    while i < n {
+    for i in 0..n {
         let f = flags[i];
         let base = bases[i];
         let letter = is_set(f, ALPHABETIC) & is_set(f, LATIN);
         let accents = letter & is_shared(f, last, ACCENTUATED);
-        doubled = doubled
-            + one(accents & is_shared(f, last, UPPERCASE))
-            + one(accents & (base == last_base));
+        doubled += one(accents & is_shared(f, last, UPPERCASE));
+        doubled += one(accents & (base == last_base));
         letters += one(letter);
         last = pick(letter, f, last);
         last_base = pick(letter, base, last_base);
-        i += 1;
     }
     let share = Fraction {
         num: DOUBLED_WORTH * doubled,
@@ -218,13 +206,11 @@ pub fn count_stops(points: &[u32], flags: &[u32], n: usize) -> Counts
 {
     let mut wrong = 0;
     let mut cjk = 0;
-    let mut i = 0;
-    while i < n {
+    for i in 0..n {
         let point = points[i];
         let stop = (point == STOP_UP) | (point == STOP_DOWN);
         wrong += one(stop);
         cjk += one(!stop & is_set(flags[i], CJK));
-        i += 1;
     }
     let share = Fraction {
         num: wrong,

@@ -6,12 +6,11 @@
 ghost use Rattle.std.specs.Prelude.{◌≡◌};
 ghost use Rattle.md_second.specs.Second.{second_score};
 
-use base::Cause;
-use base::refusals::{NOT_FINITE, TOO_LONG};
+use base::{Cause, Refusal, refuse};
 use classes::{bad_classes, bad_pairs};
-use md_meaning::Scored;
+use md_meaning::Score;
 use ratio::finite::is_finite;
-use scan::{second_refused, second_scan};
+use scan::second_scan;
 
 mod classed;
 mod counting;
@@ -25,20 +24,21 @@ pub const SECOND_LONGEST: usize = 4096;
 pub const ROOM: usize = SECOND_LONGEST + 1;
 
 // The mess ratio of a text of at most SECOND_LONGEST code points. "Refusals: 1 above 4,096, then as scoring": 4, 5, 7, 6.
-pub fn second_score(text: &[u32], threshold: f32, classes: &[u8], pairs: &[u8]) -> Scored
+pub fn second_score(
+    text: &[u32],
+    threshold: f32,
+    classes: &[u8],
+    pairs: &[u8],
+) -> Result<Score, Refusal>
     ensures { result ≡ second_score text.now threshold classes.now pairs.now }
 {
     if text.len() > SECOND_LONGEST {
-        return second_refused(TOO_LONG, 0);
+        return refuse(Cause::TooLong, 0);
     }
     if !is_finite(threshold) {
-        return second_refused(NOT_FINITE, 0);
+        return refuse(Cause::NotFinite, 0);
     }
-    match bad_classes(classes) {
-        Cause::Refused(why) => Scored::Refused(why),
-        Cause::Allowed => match bad_pairs(pairs) {
-            Cause::Refused(why) => Scored::Refused(why),
-            Cause::Allowed => second_scan(text, threshold, classes, pairs),
-        },
-    }
+    bad_classes(classes)?;
+    bad_pairs(pairs)?;
+    second_scan(text, threshold, classes, pairs)
 }

@@ -41,7 +41,7 @@ const LONGEST_RUN: u32 = 64;
 const CHANGES: u32 = 2;
 
 // The words that are closed: their characters, their number, the foreign long ones, the characters of bad ones.
-#[derive(Clone, Copy)]
+#[derive(Clone, Copy, Default)]
 pub struct Words {
     pub characters: u32,
     pub words: u32,
@@ -50,7 +50,7 @@ pub struct Words {
 }
 
 // The word that is being read: what has entered it.
-#[derive(Clone, Copy)]
+#[derive(Clone, Copy, Default)]
 pub struct Word {
     pub length: u32,
     pub accents: u32,
@@ -109,14 +109,7 @@ fn is_foreign(f: u32) -> bool
 fn no_word() -> Word
     ensures { result ≡ reading.no_word }
 {
-    Word {
-        length: 0,
-        accents: 0,
-        uppercase: 0,
-        last: 0,
-        watch: false,
-        bad: false,
-    }
+    Word::default()
 }
 
 // A character of a word: an ASCII letter enters it, and an odd symbol once a letter has.
@@ -245,8 +238,7 @@ fn read_word(flags: &[u32], at: usize, n: usize, s: Reading) -> Reading
     let words = s.words;
     let mut word = no_word();
     let mut case = s.case;
-    let mut i = at;
-    while i < n {
+    for i in at..n {
         let f = flags[i];
         if is_gap(f) {
             let shut = closed(words, word);
@@ -254,7 +246,6 @@ fn read_word(flags: &[u32], at: usize, n: usize, s: Reading) -> Reading
         }
         word = entered(word, f);
         case = cased(case, f);
-        i += 1;
     }
     Reading { words, case }
 }
@@ -267,15 +258,12 @@ fn read_gap(flags: &[u32], at: usize, n: usize, s: Reading) -> Reading
 {
     let words = s.words;
     let mut case = s.case;
-    let mut i = at;
-    while i < n {
+    for i in at..n {
         let f = flags[i];
-        if is_gap(f) {
-            case = cased(case, f);
-            i += 1;
-        } else {
+        if !is_gap(f) {
             return read_word(flags, i, n, Reading { words, case });
         }
+        case = cased(case, f);
     }
     Reading { words, case }
 }
@@ -284,12 +272,7 @@ fn unread() -> Reading
     ensures { result ≡ reading.unread }
 {
     Reading {
-        words: Words {
-            characters: 0,
-            words: 0,
-            foreign: 0,
-            spoilt: 0,
-        },
+        words: Words::default(),
         case: Case {
             since: 0,
             run: 0,

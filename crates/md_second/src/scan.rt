@@ -1,12 +1,12 @@
 // The scan over the lists: at each checkpoint the eight detectors are counted over all characters fed so far, from the first on.
-ghost use Rattle.std.specs.Prelude.{◌≡◌, ◌&&◌, ◌+◌, ◌≤◌, ◌<◌, length};
+ghost use Rattle.base.specs.Causes.{refused_at};
+ghost use Rattle.std.specs.Prelude.{◌≡◌, ◌&&◌, ◌+◌, ◌≤◌, ◌<◌, length, Some};
 ghost use Rattle.std.specs.Float.Ieee.{le};
 ghost use Rattle.classes.specs.Inner.Tables.{Tables};
 ghost use Rattle.ratio.specs.Inner.Eight.{EachSmall};
-ghost use Rattle.md_meaning.specs.declared.Limit.TheVariants.{Threshold};
 ghost use Rattle.md_meaning.specs.Text.{checkpoint};
 ghost use Rattle.md_meaning.specs.Scan as scans;
-ghost use Rattle.md_meaning.specs.Inner.Scan.{refused, scan};
+ghost use Rattle.md_meaning.specs.Inner.Scan.{scan};
 ghost use Rattle.md_eight.specs.Detectors as detectors;
 ghost use Rattle.md_second.specs.Second.{SECOND_LONGEST};
 ghost use Rattle.md_second.specs.Inner.After.{eight_after};
@@ -17,9 +17,8 @@ use crate::counting::{
     count_accents, count_doubled, count_ranges, count_stops, count_symbols, count_unprintable,
 };
 use crate::readers::{count_case, count_words, read_words};
-use base::Refusal;
-use base::refusals::UNCLASSED;
-use md_meaning::{Score, Scored};
+use base::{Cause, Refusal, refuse};
+use md_meaning::Score;
 use ratio::{EightCounts, rounding, telling};
 
 // Up to this many characters SHORT_PERIOD is used, then up to MIDDLE_LENGTH MIDDLE_PERIOD, else LONG_PERIOD.
@@ -54,12 +53,6 @@ fn is_compared(length: usize, i: usize) -> bool
     i % period == period - 1
 }
 
-pub fn second_refused(number: u32, place: u32) -> Scored
-    ensures { result ≡ refused number place }
-{
-    Scored::Refused(Refusal { number, place })
-}
-
 // The eight detectors' counts over the first n characters: six by themselves, two as the readers bring them.
 fn eight_after(
     points: &[u32],
@@ -73,27 +66,25 @@ fn eight_after(
     ensures { result ≡ detectors.counts (eight_after points.now flags.now ranges.now bases.now pairs.now n) }
 {
     let read = read_words(flags, n);
-    let words = read.words;
-    let case = read.case;
     EightCounts {
         symbols: count_symbols(points, flags, n),
         accents: count_accents(flags, n),
         unprintable: count_unprintable(flags, n),
         ranges: count_ranges(flags, ranges, pairs, n),
         doubled: count_doubled(flags, bases, n),
-        words: count_words(words),
+        words: count_words(read.words),
         stops: count_stops(points, flags, n),
-        archaic: count_case(case, n),
+        archaic: count_case(read.case, n),
     }
 }
 
 // The answer that these counts make.
-fn second_answer(counts: EightCounts, fed: u32, stopped: bool) -> Scored
+fn second_answer(counts: EightCounts, fed: u32, stopped: bool) -> Result<Score, Refusal>
     requires { EachSmall counts }
     ensures { result ≡ listed.answered counts fed stopped }
 {
     let ratios = rounding::ratios(counts);
-    Scored::Score(Score {
+    Ok(Score {
         ratios,
         sum: rounding::sum(ratios),
         fed,
@@ -111,7 +102,7 @@ fn answer_after(
     pairs: &[u8],
     n: usize,
     stopped: bool,
-) -> Scored
+) -> Result<Score, Refusal>
     requires { listed.Listed points.now flags.now ranges.now bases.now pairs.now n }
     ensures { result ≡ scans.scored (eight_after points.now flags.now ranges.now bases.now pairs.now n) n stopped }
 {
@@ -152,30 +143,33 @@ fn compare_all(
     pairs: &[u8],
     length: usize,
     threshold: f32,
-) -> Scored
+) -> Result<Score, Refusal>
     requires { listed.Listed points.now flags.now ranges.now bases.now pairs.now (length + 1) }
     ensures { result ≡ listed.list_score points.now flags.now ranges.now bases.now pairs.now length threshold }
 {
     let total = length + 1;
-    let mut i = 0;
-    while i < total {
+    for i in 0..total {
         if stops_after(points, flags, ranges, bases, pairs, length, i, threshold) {
             return answer_after(points, flags, ranges, bases, pairs, i + 1, true);
         }
-        i += 1;
     }
     answer_after(points, flags, ranges, bases, pairs, total, false)
 }
 
 // The scan over checked tables. "The whole text is classed first, so 6 is given also for a character past the stopping place."
-pub fn second_scan(text: &[u32], threshold: f32, classes: &[u8], pairs: &[u8]) -> Scored
+pub fn second_scan(
+    text: &[u32],
+    threshold: f32,
+    classes: &[u8],
+    pairs: &[u8],
+) -> Result<Score, Refusal>
     requires { Tables classes.now pairs.now × (length text.now ≤ SECOND_LONGEST) }
-    ensures { result ≡ scan classes.now pairs.now text.now (Threshold threshold) }
+    ensures { result ≡ scan classes.now pairs.now text.now (Some threshold) }
 {
     let table = class_builtin::table();
     let bad = first_classless(text, &table, classes);
     if bad <= text.len() {
-        return second_refused(UNCLASSED, bad as u32);
+        return refuse(Cause::Unclassed, bad as u32);
     }
     let points = points_of(text, &table, classes);
     let flags = flags_of(text, &table, classes);

@@ -1,2 +1,1 @@
 pub mod Lendable
-pub mod Rooms

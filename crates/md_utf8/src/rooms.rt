@@ -5,15 +5,14 @@ ghost use Rattle.utf8_meaning.specs.Text.{text_of};
 ghost use Rattle.utf8_meaning.specs.Inner.Readable.{Readable};
 ghost use Rattle.md_meaning.specs.MessRatio.{mess_ratio};
 ghost use Rattle.md_utf8.specs.Inner.Lendable.{Lendable};
-ghost use Rattle.md_utf8.specs.Inner.Rooms as rooms;
 ghost use Rattle.md_utf8_meaning.specs.ScoreUtf8.{mess_ratio_utf8};
 
-use base::Counted;
+use base::Refusal;
 use base::limits::LONGEST_TEXT;
 use class_builtin::Table;
 use classes::HINTS;
 use md::scan::scan_text_in;
-use md_meaning::{Limit, Scored};
+use md_meaning::Score;
 use utf8_taking::take_utf8;
 
 // Code points of a text that goes through the small room, which costs little to clear: most console lines.
@@ -31,12 +30,12 @@ pub fn score_read(
     table: &Table,
     classes: &[u8],
     pairs: &[u8],
-) -> Scored
+) -> Result<Score, Refusal>
     requires { Readable bytes.now n × Lendable threshold table.now classes.now pairs.now }
     ensures { result ≡ mess_ratio (text_of bytes.now) threshold classes.now pairs.now }
 {
     if n <= SHORT {
-        return through_short(bytes, n, threshold, hints, table, classes, pairs);
+        return through_room::<SHORT>(bytes, n, threshold, hints, table, classes, pairs);
     }
     score_larger(bytes, n, threshold, hints, table, classes, pairs)
 }
@@ -50,17 +49,18 @@ pub fn score_larger(
     table: &Table,
     classes: &[u8],
     pairs: &[u8],
-) -> Scored
+) -> Result<Score, Refusal>
     requires { Readable bytes.now n × Lendable threshold table.now classes.now pairs.now }
     ensures { result ≡ mess_ratio (text_of bytes.now) threshold classes.now pairs.now }
 {
     if n <= MIDDLE {
-        return through_middle(bytes, n, threshold, hints, table, classes, pairs);
+        return through_room::<MIDDLE>(bytes, n, threshold, hints, table, classes, pairs);
     }
-    through_long(bytes, n, threshold, hints, table, classes, pairs)
+    through_room::<LONGEST_TEXT>(bytes, n, threshold, hints, table, classes, pairs)
 }
 
-fn through_short(
+// The same through a room of N code points.
+fn through_room<const N: usize>(
     bytes: &[u8],
     n: usize,
     threshold: f32,
@@ -68,43 +68,11 @@ fn through_short(
     table: &Table,
     classes: &[u8],
     pairs: &[u8],
-) -> Scored
-    requires { Readable bytes.now n × (n ≤ rooms.SHORT) × Lendable threshold table.now classes.now pairs.now }
+) -> Result<Score, Refusal>
+    requires { Readable bytes.now n × (n ≤ N) × (N ≤ LONGEST_TEXT) × Lendable threshold table.now classes.now pairs.now }
     ensures { result ≡ mess_ratio (text_of bytes.now) threshold classes.now pairs.now }
 {
-    let mut room = [0u32; SHORT];
-    through(bytes, n, &mut room, threshold, hints, table, classes, pairs)
-}
-
-fn through_middle(
-    bytes: &[u8],
-    n: usize,
-    threshold: f32,
-    hints: &mut [usize; HINTS],
-    table: &Table,
-    classes: &[u8],
-    pairs: &[u8],
-) -> Scored
-    requires { Readable bytes.now n × (n ≤ rooms.MIDDLE) × Lendable threshold table.now classes.now pairs.now }
-    ensures { result ≡ mess_ratio (text_of bytes.now) threshold classes.now pairs.now }
-{
-    let mut room = [0u32; MIDDLE];
-    through(bytes, n, &mut room, threshold, hints, table, classes, pairs)
-}
-
-fn through_long(
-    bytes: &[u8],
-    n: usize,
-    threshold: f32,
-    hints: &mut [usize; HINTS],
-    table: &Table,
-    classes: &[u8],
-    pairs: &[u8],
-) -> Scored
-    requires { Readable bytes.now n × Lendable threshold table.now classes.now pairs.now }
-    ensures { result ≡ mess_ratio (text_of bytes.now) threshold classes.now pairs.now }
-{
-    let mut room = [0u32; LONGEST_TEXT];
+    let mut room = [0u32; N];
     through(bytes, n, &mut room, threshold, hints, table, classes, pairs)
 }
 
@@ -118,19 +86,12 @@ pub fn through(
     table: &Table,
     classes: &[u8],
     pairs: &[u8],
-) -> Scored
+) -> Result<Score, Refusal>
     requires { Readable bytes.now n × (n ≤ length room.old) × Lendable threshold table.now classes.now pairs.now }
     ensures { result ≡ mess_ratio (text_of bytes.now) threshold classes.now pairs.now }
 {
     utf8::fill(bytes, room);
-    scan_text_in(
-        &room[..n],
-        Limit::Threshold(threshold),
-        hints,
-        table,
-        classes,
-        pairs,
-    )
+    scan_text_in(&room[..n], Some(threshold), hints, table, classes, pairs)
 }
 
 // The score of bytes that were not counted, taken in one pass into a room that has a place for each: most lines of a burst.
@@ -142,19 +103,17 @@ pub fn score_taken(
     table: &Table,
     classes: &[u8],
     pairs: &[u8],
-) -> Scored
+) -> Result<Score, Refusal>
     requires { (length bytes.now ≤ length room.old) × (length bytes.now ≤ LONGEST_TEXT) × Lendable threshold table.now classes.now pairs.now }
     ensures { result ≡ mess_ratio_utf8 bytes.now threshold classes.now pairs.now }
 {
-    match take_utf8(bytes, room) {
-        Counted::Refused(why) => Scored::Refused(why),
-        Counted::Count(count) => scan_text_in(
-            &room[..count as usize],
-            Limit::Threshold(threshold),
-            hints,
-            table,
-            classes,
-            pairs,
-        ),
-    }
+    let count = take_utf8(bytes, room)?;
+    scan_text_in(
+        &room[..count as usize],
+        Some(threshold),
+        hints,
+        table,
+        classes,
+        pairs,
+    )
 }

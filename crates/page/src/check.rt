@@ -6,8 +6,7 @@ ghost use Rattle.page_meaning.specs.Page.{bad_entry, first_bad, PAGE_ENTRIES};
 ghost use Rattle.page.specs.Inner.Marks.{MARKS};
 
 use base::limits::{SURROGATE_FIRST, SURROGATE_LAST};
-use base::refusals::BAD_PAGE;
-use base::{Cause, refuse};
+use base::{Cause, Refusal, refuse};
 
 // entries of a page
 pub const PAGE_ENTRIES: usize = 128;
@@ -32,10 +31,8 @@ pub fn holds(list: &[u16], x: u16) -> bool
     ensures { result ≡ among x list.now }
 {
     let mut held = false;
-    let mut k = 0;
-    while k < list.len() {
-        held = held | (list[k] == x);
-        k += 1;
+    for y in list {
+        held = held | (*y == x);
     }
     held
 }
@@ -76,28 +73,26 @@ fn first_bad(page: &[u16]) -> usize
     ensures { result ≡ first_bad page.now }
 {
     let mut marks = [false; MARKS];
-    let mut i = 0;
-    while i < PAGE_ENTRIES {
-        let mark = mark_of(page[i]);
+    for (i, entry) in page.iter().enumerate() {
+        let mark = mark_of(*entry);
         if is_bad(page, i, marks[mark]) {
             return i;
         }
         marks[mark] = true;
-        i += 1;
     }
-    i
+    PAGE_ENTRIES
 }
 
 // Refusal 10: a wrong number of entries at 0, then the first bad entry.
-pub fn bad_page(page: &[u16]) -> Cause
+pub fn bad_page(page: &[u16]) -> Result<(), Refusal>
     ensures { result ≡ bad_page page.now }
 {
     if page.len() != PAGE_ENTRIES {
-        return refuse(BAD_PAGE, 0);
+        return refuse(Cause::BadPage, 0);
     }
     let bad = first_bad(page);
     if bad < PAGE_ENTRIES {
-        return refuse(BAD_PAGE, bad as u32);
+        return refuse(Cause::BadPage, bad as u32);
     }
-    Cause::Allowed
+    Ok(())
 }

@@ -16,10 +16,8 @@ pub fn invert(page: &[u16], inverse: &mut [u8; POINTS])
     requires { Good page.now × (inverse.old ≡ replicate 65536 0) }
     ensures { Inverse page.now inverse.new }
 {
-    let mut b = 0;
-    while b < BYTES {
+    for b in 0..BYTES {
         inverse[point_of(page, b) as usize] = b as u8;
-        b += 1;
     }
 }
 
@@ -37,14 +35,9 @@ fn is_lacking(inverse: &[u8; POINTS], point: u32) -> bool
 pub fn first_lacking(inverse: &[u8; POINTS], text: &[u32]) -> usize
     ensures { result ≡ first_lacking inverse.now text.now }
 {
-    let mut i = 0;
-    while i < text.len() {
-        if is_lacking(inverse, text[i]) {
-            return i;
-        }
-        i += 1;
-    }
-    i
+    text.iter()
+        .position(|point| is_lacking(inverse, *point))
+        .unwrap_or(text.len())
 }
 
 // The bytes of a text that the page has, into the first places of an output that has room.
@@ -52,9 +45,7 @@ pub fn bytes_into(inverse: &[u8; POINTS], text: &[u32], out: &mut [u8])
     requires { (length text.now ≤ length out.old) × ((i : ℕ) → i < length text.now → get_or text.now i 0 < UNUSED) }
     ensures { out.new ≡ put out.old 0 (looked inverse.now text.now) }
 {
-    let mut i = 0;
-    while i < text.len() {
-        out[i] = inverse[text[i] as usize];
-        i += 1;
+    for (i, point) in text.iter().enumerate() {
+        out[i] = inverse[*point as usize];
     }
 }

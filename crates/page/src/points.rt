@@ -25,10 +25,8 @@ pub fn lay_points(page: &[u16], points: &mut [u32; BYTES])
     requires { (length page.now ≡ PAGE_ENTRIES) × (points.old ≡ replicate 256 0) }
     ensures { Points page.now points.new }
 {
-    let mut b = 0;
-    while b < BYTES {
-        points[b] = point_of(page, b);
-        b += 1;
+    for (b, point) in points.iter_mut().enumerate() {
+        *point = point_of(page, b);
     }
 }
 
@@ -36,14 +34,10 @@ pub fn lay_points(page: &[u16], points: &mut [u32; BYTES])
 fn first_unused(points: &[u32; BYTES], bytes: &[u8]) -> usize
     ensures { result ≡ first_unused points.now bytes.now }
 {
-    let mut i = 0;
-    while i < bytes.len() {
-        if points[bytes[i] as usize] == UNUSED {
-            return i;
-        }
-        i += 1;
-    }
-    i
+    bytes
+        .iter()
+        .position(|b| points[*b as usize] == UNUSED)
+        .unwrap_or(bytes.len())
 }
 
 // The same under a page, which lends its entries too: where none of them is unused, no byte is, and the bytes are not looked at.
@@ -62,9 +56,7 @@ pub fn points_into(points: &[u32; BYTES], bytes: &[u8], out: &mut [u32])
     requires { length bytes.now ≤ length out.old }
     ensures { out.new ≡ put out.old 0 (looked points.now bytes.now) }
 {
-    let mut i = 0;
-    while i < bytes.len() {
-        out[i] = points[bytes[i] as usize];
-        i += 1;
+    for (i, b) in bytes.iter().enumerate() {
+        out[i] = points[*b as usize];
     }
 }

@@ -1,20 +1,21 @@
 -- The program's line (01, "Marked and run"): `score 40800000 fed 2 stopped 0` or `refused 2 at 0`, "and a line feed". The eight digits are
 -- the bits of the sum as an f32; `stopped` is 1 where the scan stopped early, else 0.
 -- Assumes nothing.
-use Rattle.std.specs.Prelude.{ℕ, ◌≤◌, ◌≡◌, List, ◌++◌, length}
+use Rattle.std.specs.Prelude.{ℕ, ◌≤◌, ◌≡◌, List, ◌++◌, length, Result, Ok, Err}
 use Rattle.std.specs.Float.Ieee.{to_bits}
 use Rattle.std.specs.Float.{binary32}
+use Rattle.base.specs.declared.Refusal.{Refusal}
 use Rattle.base.specs.Numbers.{bump}
 use Rattle.base.specs.Put.{put}
-use Rattle.md_meaning.specs.declared.Scored.{Scored}
-use Rattle.md_meaning.specs.declared.Scored.TheVariants.{Score, Refused}
+use Rattle.base.specs.Refusals.{number_of}
 use Rattle.program.specs.Program.{answer}
 use Rattle.pieces.specs.Words.{codes}
 use Rattle.pieces.specs.Numerals.{decimal}
 use Rattle.program.specs.Numerals.{hex}
+use Rattle.md_meaning.specs.declared.Score.{Score}
 
-unfoldable pub line : Scored → List ℕ
-line (Score s) =
+unfoldable pub line : Result Score Refusal → List ℕ
+line (Ok s) =
     codes "score "
     ++ hex (to_bits binary32 s.sum)
     ++ codes " fed "
@@ -22,9 +23,9 @@ line (Score s) =
     ++ codes " stopped "
     ++ decimal (bump s.stopped)
     ++ codes "\n"
-line (Refused r) =
+line (Err r) =
     codes "refused "
-    ++ decimal r.number
+    ++ decimal (number_of r.cause)
     ++ codes " at "
     ++ decimal r.place
     ++ codes "\n"

@@ -1,16 +1,15 @@
 // The program: the bytes of standard input in, the line for standard output out. `report` is the whole of it; `run` only reads and writes.
 #![tactic(auto)]
 
-ghost use Rattle.std.specs.Prelude.{◌≡◌, ◌≤◌, length, IfOk};
+ghost use Rattle.std.specs.Prelude.{◌≡◌, ◌≤◌, length};
 ghost use Rattle.md_utf8_meaning.specs.ScoreUtf8.{mess_ratio_utf8};
 ghost use Rattle.program.specs.Program as program;
 ghost use Rattle.program.specs.Line.{Reported};
 
 use base::limits::PAIR_BYTES;
-use base::refusals::TOO_LONG;
+use base::{Cause, Refusal, refuse};
 use line::{put_refused, put_score};
-use md::unscored;
-use md_meaning::Scored;
+use md_meaning::Score;
 use md_utf8::mess_ratio_utf8;
 use std::io;
 use std::io::Read;
@@ -36,7 +35,7 @@ fn no_pairs() -> [u8; PAIR_BYTES]
 }
 
 // The score of bytes that are not too many, with no class records and an all-zero pair table.
-fn score_input(bytes: &[u8]) -> Scored
+fn score_input(bytes: &[u8]) -> Result<Score, Refusal>
     ensures { result ≡ mess_ratio_utf8 bytes.now program.THRESHOLD program.NO_CLASSES program.NO_PAIRS }
 {
     let classes: [u8; 0] = [];
@@ -45,11 +44,11 @@ fn score_input(bytes: &[u8]) -> Scored
 }
 
 // The score of the bytes, or their refusal.
-pub fn answer(bytes: &[u8]) -> Scored
+pub fn answer(bytes: &[u8]) -> Result<Score, Refusal>
     ensures { result ≡ program.answer bytes.now }
 {
     if bytes.len() > LONGEST_INPUT {
-        return unscored(TOO_LONG, 0);
+        return refuse(Cause::TooLong, 0);
     }
     score_input(bytes)
 }
@@ -59,8 +58,8 @@ pub fn report(bytes: &[u8], out: &mut [u8; LINE]) -> usize
     ensures { Reported bytes.now out.old out.new result }
 {
     match answer(bytes) {
-        Scored::Refused(why) => put_refused(out, why),
-        Scored::Score(score) => put_score(out, score),
+        Err(why) => put_refused(out, why),
+        Ok(score) => put_score(out, score),
     }
 }
 
@@ -71,6 +70,7 @@ pub fn read_input(rt: &impl Input, buf: &mut [u8]) -> usize
 {
     let mut input = rt.reader();
     let mut done = 0;
+    // Stays a while: a turn takes as many bytes as one read gives.
     while done < buf.len() {
         match input.read(&mut buf[done..]) {
             Ok(0) | Err(_) => return done,

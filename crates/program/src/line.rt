@@ -1,8 +1,7 @@
 // The line that the program writes, piece by piece.
-ghost use Rattle.std.specs.Prelude.{◌≡◌, not, ◌≤◌, ◌<◌, T, length};
+ghost use Rattle.std.specs.Prelude.{◌≡◌, not, ◌≤◌, ◌<◌, T, length, Ok, Err};
 ghost use Rattle.std.specs.Float.Ieee.{to_bits, is_nan};
 ghost use Rattle.std.specs.Float.{binary32};
-ghost use Rattle.md_meaning.specs.declared.Scored.TheVariants as scored;
 ghost use Rattle.program.specs.Numerals as numerals;
 ghost use Rattle.program.specs.Inner.Line as lines;
 ghost use Rattle.program.specs.Line.{line};
@@ -46,13 +45,13 @@ fn bits_of(score: Score) -> u32
     requires { T (not (is_nan score.sum)) }
     ensures { result ≡ to_bits binary32 score.sum }
 {
-    f32::to_bits(score.sum)
+    score.sum.to_bits()
 }
 
 // The line of a score.
 pub fn put_score(out: &mut [u8], score: Score) -> usize
     requires { T (not (is_nan score.sum)) × (lines.LONGEST_LINE ≤ length out.old) }
-    ensures { Goes out.old out.new 0 (line (scored.Score score)) result }
+    ensures { Goes out.old out.new 0 (line (Ok score)) result }
 {
     let digits = hex(bits_of(score));
     let a = put_piece(out, 0, b"score ");
@@ -65,9 +64,9 @@ pub fn put_score(out: &mut [u8], score: Score) -> usize
 // The line of a refusal.
 pub fn put_refused(out: &mut [u8], why: Refusal) -> usize
     requires { lines.LONGEST_LINE ≤ length out.old }
-    ensures { Goes out.old out.new 0 (line (scored.Refused why)) result }
+    ensures { Goes out.old out.new 0 (line (Err why)) result }
 {
-    let a = put_number(out, 0, b"refused ", why.number);
+    let a = put_number(out, 0, b"refused ", why.cause.number());
     let b = put_number(out, a, b" at ", why.place);
     put_piece(out, b, b"\n")
 }

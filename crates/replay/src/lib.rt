@@ -3,11 +3,11 @@
 // are safe and end; what a case compares, a program's own function does.
 #![tactic(auto)]
 
-ghost use Rattle.std.specs.Prelude.{◌≤◌, ◌<◌, ◌≡◌, length};
-ghost use Rattle.replay.specs.Inner.Sizes.{FRONT, Fits};
-ghost use Rattle.replay.specs.Inner.Tally.{Sound, Tallied, Started, Turned};
+ghost use Rattle.std.specs.Prelude.{◌≤◌, ◌<◌, ◌≡◌, ◌+◌, length, IfSome};
+ghost use Rattle.replay.specs.Inner.Sizes.{MOST_CASES, MOST_WORDS};
 
-use base::{one, pick, u32_at};
+use base::refusals::ACCEPTED;
+use base::{Refusal, u32_at};
 use std::io;
 use std::io::Read;
 
@@ -15,101 +15,98 @@ use std::io::Read;
 pub const WORD: usize = 4;
 
 // A replay ends after so many cases at the latest.
-const MOST_CASES: u32 = 100000;
+pub const MOST_CASES: u32 = 100000;
 
 // The bits of +infinity, and of the sign.
 const INFINITY_BITS: u32 = 0x7F80_0000;
 
 const SIGN_BIT: u32 = 0x8000_0000;
 
-// What a replay has come to: how many cases it has compared, how many of them differ and the first that does, counted from 1; and the size of the
-// case that stands in the buffer, 0 where there is none left.
+// What a replay has come to: how many cases it has compared, how many of them differ and the first that does, counted from 1.
 #[derive(Clone, Copy)]
 pub struct Tally {
-    pub cases: u32,
-    pub differ: u32,
-    pub first: u32,
-    pub size: usize,
+    cases: u32,
+    differ: u32,
+    first: Option<u32>,
+    ghost few: { cases ≤ MOST_CASES },
+    ghost some: { differ ≤ cases },
 }
 
-// A case of standard input, put at the front of buf: its size, or 0 where the list has ended. A case that buf cannot hold is cut to buf's length.
-pub fn read_case(rt: &impl Input, buf: &mut [u8]) -> usize
-    ensures { Fits result buf.old buf.new }
+impl Tally {
+    // Nothing is compared yet.
+    pub fn none() -> Self {
+        Tally {
+            cases: 0,
+            differ: 0,
+            first: None,
+        }
+    }
+
+    // One case more was compared.
+    pub fn tallied(self, same: bool) -> Self
+        ensures more { self.cases ≤ result.cases }
+        ensures one { self.cases < MOST_CASES → result.cases ≡ self.cases + 1 }
+    {
+        if self.cases >= MOST_CASES {
+            return self;
+        }
+        let cases = self.cases + 1;
+        let (differ, first) = if same {
+            (self.differ, self.first)
+        } else {
+            (self.differ + 1, self.first.or(Some(cases)))
+        };
+        Tally {
+            cases,
+            differ,
+            first,
+        }
+    }
+
+    // The program's verdict, a line: how many cases there were, how many differ, and the first that does.
+    pub fn say(self, rt: &impl Print) -> io::Result<()> {
+        let cases = self.cases;
+        let differ = self.differ;
+        match self.first {
+            Some(first) => println!(rt; "{cases} cases, {differ} differ, first case {first}"),
+            None => println!(rt; "{cases} cases, {differ} differ"),
+        }
+    }
+}
+
+// A case of standard input, put at the front of buf; None where the list has ended, or has a case of no bytes. A case that buf cannot hold is cut
+// to buf's length.
+pub fn read_case<'a>(rt: &impl Input, buf: &'a mut [u8]) -> Option<&'a [u8]>
+    ensures { IfSome result (λ case. length case.now ≤ length buf.old) }
 {
     let mut input = rt.reader();
     let mut head = [0u8; WORD];
-    if input.read_exact(&mut head).is_err() {
-        return 0;
-    }
+    input.read_exact(&mut head).ok()?;
     let n = least(word(&head, 0) as usize, buf.len());
-    let _ = input.read_exact(&mut buf[..n]);
-    n
+    if n == 0 {
+        return None;
+    }
+    let case = &mut buf[..n];
+    let _ = input.read_exact(case);
+    Some(case)
 }
 
-// Nothing is compared yet, and no case is read.
-pub fn no_cases() -> Tally
-    ensures { Sound result }
+// Compares the cases one after the other, each with `same`, and says the verdict.
+pub fn replay_cases<F: FnMut(&[u8]) -> bool>(
+    rt: &(impl Input + Print),
+    buf: &mut [u8],
+    mut same: F,
+) -> io::Result<()>
+    requires { F.IsAlwaysCallable same }
 {
-    Tally {
-        cases: 0,
-        differ: 0,
-        first: 0,
-        size: 0,
-    }
-}
-
-// Reads the first case: nothing is compared yet.
-pub fn first_case(rt: &impl Input, buf: &mut [u8]) -> Tally
-    ensures { Started result buf.old buf.new }
-{
-    let size = read_case(rt, buf);
-    Tally {
-        cases: 0,
-        differ: 0,
-        first: 0,
-        size,
-    }
-}
-
-// One case more was compared.
-pub fn tallied(t: Tally, same: bool) -> Tally
-    requires { Sound t }
-    ensures { Tallied t result }
-{
-    if t.cases >= MOST_CASES {
-        return t;
-    }
-    let wrong = !same;
-    let cases = t.cases + 1;
-    Tally {
-        cases,
-        differ: t.differ + one(wrong),
-        first: pick(wrong & (t.differ == 0), cases, t.first),
-        size: t.size,
-    }
-}
-
-// The case in the buffer was compared: counts it, and reads the next in its place.
-pub fn next_case(rt: &impl Input, buf: &mut [u8], t: Tally, same: bool) -> Tally
-    requires { Sound t × (0 < t.size) }
-    ensures { Turned t result buf.old buf.new }
-{
-    let c = tallied(t, same);
-    if c.cases >= MOST_CASES {
-        return Tally {
-            cases: c.cases,
-            differ: c.differ,
-            first: c.first,
-            size: 0,
+    let mut t = Tally::none();
+    for _ in 0..MOST_CASES {
+        let Some(case) = read_case(rt, buf) else {
+            break;
         };
+        t = t.tallied(same(case));
     }
-    let size = read_case(rt, buf);
-    Tally {
-        cases: c.cases,
-        differ: c.differ,
-        first: c.first,
-        size,
-    }
+    t.say(rt)
 }
 
 // The lesser of the two.
@@ -121,7 +118,7 @@ pub fn least(a: usize, b: usize) -> usize
 
 // The byte of buf at i; 0 where buf has ended.
 pub fn byte(buf: &[u8], i: usize) -> u8 {
-    if i < buf.len() { buf[i] } else { 0 }
+    buf.get(i).copied().unwrap_or(0)
 }
 
 // The k-th little-endian u32 of buf, counted from 0; 0 where buf has ended.
@@ -136,39 +133,37 @@ pub fn word(buf: &[u8], k: usize) -> u32 {
 pub fn words(buf: &[u8], from: usize, out: &mut [u32])
     ensures { length out.new ≡ length out.old }
 {
-    let end = buf.len() / WORD;
-    let mut k = from;
-    let mut i = 0;
-    while i < out.len() {
-        if k >= end {
-            return;
-        }
-        out[i] = word(buf, k);
-        k += 1;
-        i += 1;
+    for (k, x) in (from..buf.len() / WORD).zip(out.iter_mut()) {
+        *x = word(buf, k);
     }
 }
 
 // Whether the words of buf from the word `at` on are those of the list.
 pub fn same_words(list: &[u32], buf: &[u8], at: usize) -> bool
-    requires { at ≤ FRONT }
+    requires { at ≤ MOST_WORDS }
 {
-    let mut same = true;
-    let mut i = 0;
-    while i < list.len() {
-        same = same & (list[i] == word(buf, at + i));
-        i += 1;
-    }
-    same
+    list.iter()
+        .enumerate()
+        .all(|(i, x)| *x == word(buf, at + i))
+}
+
+// Whether a call that counts answered what the words of buf from the word `at` on say: number, place and count.
+pub fn same_counted(answer: Result<u32, Refusal>, buf: &[u8], at: usize) -> bool
+    requires { at ≤ MOST_WORDS }
+{
+    let told = match answer {
+        Ok(count) => [ACCEPTED, 0, count],
+        Err(why) => [why.cause.number(), why.place, 0],
+    };
+    same_words(&told, buf, at)
 }
 
 // Flips a bit of the table, counted from the lowest of the first byte; one past its end is passed over.
 fn flip(table: &mut [u8], bit: u32)
     ensures { length table.new ≡ length table.old }
 {
-    let at = (bit / 8) as usize;
-    if at < table.len() {
-        table[at] = table[at] ^ (1 << (bit % 8));
+    if let Some(byte) = table.get_mut((bit / 8) as usize) {
+        *byte ^= 1 << (bit % 8);
     }
 }
 
@@ -176,16 +171,8 @@ fn flip(table: &mut [u8], bit: u32)
 pub fn flip_bits(buf: &[u8], from: usize, n: usize, table: &mut [u8])
     ensures { length table.new ≡ length table.old }
 {
-    let end = buf.len() / WORD;
-    let mut k = from;
-    let mut i = 0;
-    while i < n {
-        if k >= end {
-            return;
-        }
+    for k in (from..buf.len() / WORD).take(n) {
         flip(table, word(buf, k));
-        k += 1;
-        i += 1;
     }
 }
 
@@ -197,15 +184,4 @@ pub fn float_of(bits: u32) -> f32 {
     } else {
         f32::from_bits(bits)
     }
-}
-
-// The program's verdict, a line: how many cases there were, how many differ, and the first that does.
-pub fn say(rt: &impl Print, t: Tally) -> io::Result<()> {
-    let cases = t.cases;
-    let differ = t.differ;
-    if differ > 0 {
-        let first = t.first;
-        return println!(rt; "{cases} cases, {differ} differ, first case {first}");
-    }
-    println!(rt; "{cases} cases, {differ} differ")
 }

@@ -5,8 +5,8 @@ ghost use Rattle.std.specs.Prelude.{◌≤◌, length};
 
 use base::limits::{CLASS_RECORD, MOST_CLASSES, PAIR_BYTES};
 use md_chooser::{choose, verdict};
-use md_chooser_meaning::Judged;
-use replay::{WORD, first_case, least, next_case, read_case, say, word, words};
+use md_chooser_meaning::{Side, Unjudged};
+use replay::{WORD, least, read_case, replay_cases, same_words, word, words};
 use std::io;
 
 // Where a case's words begin: the bytes of the pair table and of the class table, the verdict, the length of the part handed back, the
@@ -17,21 +17,11 @@ const CLASSES_AT: usize = 1;
 
 const TAKEN_AT: usize = 2;
 
-const REFUSED_AT: usize = 3;
-
-const NUMBER_AT: usize = 4;
-
-const PLACE_AT: usize = 5;
-
 const PART_AT: usize = 6;
 
 const FIRST_AT: usize = 7;
 
 const TEXTS_AT: usize = 8;
-
-const FIRST: u32 = 1;
-
-const SECOND: u32 = 2;
 
 const MOST_POINTS: usize = 1024;
 
@@ -42,35 +32,13 @@ const CLASS_BYTES: usize = MOST_CLASSES * CLASS_RECORD;
 
 const PAIR_ROOM: usize = PAIR_BYTES + WORD;
 
-// Whether the verdict is that of the case.
-fn told(buf: &[u8], taken: u32, refused: u32, number: u32, place: u32) -> bool {
-    (word(buf, TAKEN_AT) == taken)
-        & (word(buf, REFUSED_AT) == refused)
-        & (word(buf, NUMBER_AT) == number)
-        & (word(buf, PLACE_AT) == place)
-}
-
-fn same_verdict(j: Judged, buf: &[u8]) -> bool {
-    match j {
-        Judged::First => told(buf, FIRST, 0, 0, 0),
-        Judged::Second => told(buf, SECOND, 0, 0, 0),
-        Judged::FirstRefused(r) => told(buf, 0, FIRST, r.number, r.place),
-        Judged::SecondRefused(r) => told(buf, 0, SECOND, r.number, r.place),
-    }
-}
-
-// Whether a part is the front of a text.
-fn front_of(part: &[u32], text: &[u32]) -> bool {
-    if part.len() > text.len() {
-        return false;
-    }
-    let mut same = true;
-    let mut i = 0;
-    while i < part.len() {
-        same = same & (part[i] == text[i]);
-        i += 1;
-    }
-    same
+// Whether the verdict is that of the case: the text taken, or the text refused with number and place.
+fn same_verdict(judged: Result<Side, Unjudged>, buf: &[u8]) -> bool {
+    let told = match judged {
+        Ok(side) => [side as u32, 0, 0, 0],
+        Err(u) => [0, u.side as u32, u.why.cause.number(), u.why.place],
+    };
+    same_words(&told, buf, TAKEN_AT)
 }
 
 // Whether both calls answer on the two texts as the case says.
@@ -83,11 +51,12 @@ fn same_texts<'a>(
 ) -> bool {
     let part = choose(first, second, classes, pairs);
     let length = part.len() == word(buf, PART_AT) as usize;
-    let of_first = front_of(part, first);
-    let of_second = front_of(part, second);
-    let content = (of_first & (word(buf, TAKEN_AT) != SECOND))
-        | (of_second & (word(buf, TAKEN_AT) == SECOND));
-    length & content & same_verdict(verdict(first, second, classes, pairs), buf)
+    let whole = if word(buf, TAKEN_AT) == Side::Second as u32 {
+        second
+    } else {
+        first
+    };
+    length & whole.starts_with(part) & same_verdict(verdict(first, second, classes, pairs), buf)
 }
 
 // The two texts stand one behind the other, the first of k code points.
@@ -100,13 +69,12 @@ fn same_cut(texts: &[u32], k: usize, buf: &[u8], classes: &[u8], pairs: &[u8]) -
 fn same_case(buf: &[u8], classes: &[u8], pairs: &[u8]) -> bool {
     let mut text = [0u32; MOST_POINTS];
     let all = buf.len() / WORD;
-    if all < TEXTS_AT {
+    let Some(n) = all.checked_sub(TEXTS_AT) else {
+        return false;
+    };
+    if n > MOST_POINTS {
         return false;
     }
-    if all - TEXTS_AT > MOST_POINTS {
-        return false;
-    }
-    let n = all - TEXTS_AT;
     let k = least(word(buf, FIRST_AT) as usize, n);
     let c = least(word(buf, CLASSES_AT) as usize, classes.len());
     let p = least(word(buf, PAIRS_AT) as usize, pairs.len());
@@ -114,21 +82,12 @@ fn same_case(buf: &[u8], classes: &[u8], pairs: &[u8]) -> bool {
     same_cut(&text[..n], k, buf, &classes[..c], &pairs[..p])
 }
 
-// The cases behind the two tables.
-fn replay_all(rt: &(impl Input + Print), classes: &[u8], pairs: &[u8]) -> io::Result<()> {
-    let mut buf = [0u8; CASE_BYTES];
-    let mut t = first_case(rt, &mut buf);
-    while t.size > 0 {
-        let same = same_case(&buf[..t.size], classes, pairs);
-        t = next_case(rt, &mut buf, t, same);
-    }
-    say(rt, t)
-}
-
+// The cases stand behind the two tables.
 fn main(rt: HostRuntime) -> io::Result<()> {
     let mut classes = [0u8; CLASS_BYTES];
     let mut pairs = [0u8; PAIR_ROOM];
-    let c = read_case(&rt, &mut classes);
-    let p = read_case(&rt, &mut pairs);
-    replay_all(&rt, &classes[..c], &pairs[..p])
+    let mut buf = [0u8; CASE_BYTES];
+    let classes = read_case(&rt, &mut classes).unwrap_or(&[]);
+    let pairs = read_case(&rt, &mut pairs).unwrap_or(&[]);
+    replay_cases(&rt, &mut buf, |case| same_case(case, classes, pairs))
 }

@@ -3,7 +3,6 @@
 #![tactic(auto)]
 
 ghost use Rattle.std.specs.Prelude.{◌+◌, ◌≤◌, ◌≡◌, length};
-ghost use Rattle.replay.specs.Inner.Tally.{Sound};
 ghost use Rattle.replay_coherence.specs.Inner.Sizes.{BLOCK_BYTES, TEXT_ROOM};
 
 use base::limits::{MOST_LANGUAGES, WORK_PER_POINT};
@@ -12,8 +11,7 @@ use base::refusals::ACCEPTED;
 use cd::coherence_ratio;
 use cd_ranking::Ranking;
 use replay::{
-    Tally, WORD, first_case, flip_bits, float_of, least, next_case, no_cases, say, tallied, word,
-    words,
+    MOST_CASES, Tally, WORD, flip_bits, float_of, least, read_case, same_words, word, words,
 };
 use std::io;
 
@@ -68,25 +66,13 @@ const SIGN_BIT: u32 = 0x8000_0000;
 // What the work area holds before a call.
 const MARK: u32 = 0xA5C3_0F5A;
 
-// The place behind `from` among p, or the first.
-fn behind(from: usize, p: usize) -> usize
-    requires { (from ≤ p) × (p ≤ TEXT_ROOM) }
-    ensures { result ≤ p }
-{
-    if from + 1 < p { from + 1 } else { 0 }
-}
-
 // Fills out with the p words of buf from the word `at` on, over and over.
 fn repeat_words(buf: &[u8], at: usize, p: usize, out: &mut [u32])
     requires { (at ≤ BLOCK_BYTES + BLOCK_BYTES) × (p ≤ TEXT_ROOM) }
     ensures { length out.new ≡ length out.old }
 {
-    let mut from = 0;
-    let mut i = 0;
-    while i < out.len() {
-        out[i] = word(buf, at + from);
-        from = behind(from, p);
-        i += 1;
+    for (i, x) in out.iter_mut().enumerate() {
+        *x = word(buf, at + i.checked_rem(p).unwrap_or(0));
     }
 }
 
@@ -104,44 +90,18 @@ fn same_matches(r: Ranking, buf: &[u8], at: usize, count: usize) -> bool
     requires { at ≤ BLOCK_BYTES + BLOCK_BYTES }
 {
     let mut same = true;
-    let mut i = 0;
-    while i < MOST_LANGUAGES {
+    for i in 0..MOST_LANGUAGES {
         let k = at + i + i;
         let language = pick(i < count, word(buf, k), 0);
         let score = pick(i < count, word(buf, k + 1), 0);
         same = same & (r.languages[i] == language) & same_score(r.scores[i], score);
-        i += 1;
     }
     same
 }
 
 // Whether the first words of the work area are 0, so many as the text needs, and the others marked.
 fn same_work(work: &[u32], zeros: usize) -> bool {
-    let mut same = true;
-    let mut i = 0;
-    while i < work.len() {
-        same = same & (work[i] == pick(i < zeros, 0, MARK));
-        i += 1;
-    }
-    same
-}
-
-// Whether number, place and count are those that stand from the word `at` on.
-fn same_answer(r: Ranking, buf: &[u8], at: usize) -> bool
-    requires { at ≤ BLOCK_BYTES + BLOCK_BYTES }
-{
-    (r.number == word(buf, at)) & (r.place == word(buf, at + 1)) & (r.count == word(buf, at + 2))
-}
-
-// The words of the work area that a ranking leaves at 0.
-fn zeros(r: Ranking, n: usize) -> usize
-    requires { n ≤ TEXT_ROOM }
-{
-    if r.number == ACCEPTED {
-        WORK_PER_POINT * n
-    } else {
-        0
-    }
+    work.iter().take(zeros).all(|x| *x == 0) & work.iter().skip(zeros).all(|x| *x == MARK)
 }
 
 // Whether the text is ranked as the question at the word `at` says, over a work area that is marked; the matches stand from the word
@@ -171,9 +131,17 @@ fn same_ranking(
         &mut work[..n],
         word(buf, at + ROOM_AT) as usize,
     );
-    same_answer(r, buf, at + ANSWER_AT)
-        & same_matches(r, buf, matches, word(buf, at + COUNT_AT) as usize)
-        & same_work(work, zeros(r, text.len()))
+    match r {
+        Ok(ranking) => {
+            same_words(&[ACCEPTED, 0, ranking.count], buf, at + ANSWER_AT)
+                & same_matches(ranking, buf, matches, word(buf, at + COUNT_AT) as usize)
+                & same_work(work, WORK_PER_POINT * text.len())
+        }
+        Err(why) => {
+            same_words(&[why.cause.number(), why.place, 0], buf, at + ANSWER_AT)
+                & same_work(work, 0)
+        }
+    }
 }
 
 // Whether the question at the word `at` is answered as it says.
@@ -220,30 +188,21 @@ fn replay_questions(
     pairs: &[u8],
     languages: &[u8],
     before: Tally,
-) -> Tally
-    requires { Sound before }
-    ensures { Sound result }
-{
-    let n = word(buf, QUESTIONS_AT);
+) -> Tally {
     let mut t = before;
     let mut at = from;
-    let mut k = 0;
-    while k < n {
+    for _ in 0..word(buf, QUESTIONS_AT) {
         if at > BLOCK_BYTES {
             return t;
         }
-        t = tallied(t, same_question(buf, at, classes, pairs, languages));
+        t = t.tallied(same_question(buf, at, classes, pairs, languages));
         at = past_question(buf, at);
-        k += 1;
     }
     t
 }
 
 // A block: its tables, and its questions asked of them.
-fn replay_block(buf: &[u8], before: Tally) -> Tally
-    requires { Sound before }
-    ensures { Sound result }
-{
+fn replay_block(buf: &[u8], before: Tally) -> Tally {
     let c = least(word(buf, 0) as usize, BLOCK_BYTES);
     let l = least(word(buf, LANGUAGES_AT) as usize, BLOCK_BYTES);
     let p = least(word(buf, PAIRS_AT) as usize, PAIR_ROOM);
@@ -277,11 +236,12 @@ fn no_block() -> [u8; BLOCK_BYTES]
 
 fn main(rt: HostRuntime) -> io::Result<()> {
     let mut buf = no_block();
-    let mut t = no_cases();
-    let mut blocks = first_case(&rt, &mut buf);
-    while blocks.size > 0 {
-        t = replay_block(&buf[..blocks.size], t);
-        blocks = next_case(&rt, &mut buf, blocks, true);
+    let mut t = Tally::none();
+    for _ in 0..MOST_CASES {
+        let Some(block) = read_case(&rt, &mut buf) else {
+            break;
+        };
+        t = replay_block(block, t);
     }
-    say(&rt, t)
+    t.say(&rt)
 }

@@ -6,12 +6,12 @@ ghost use Rattle.std.specs.Prelude.{◌≡◌, ◌<◌, ◌≤◌, ◌^◌, leng
 ghost use Rattle.base.specs.Inner.Limits.{MOST_LETTERS};
 ghost use Rattle.base.specs.Limits.{LANGUAGE_LETTERS};
 ghost use Rattle.f32_nearest.specs.Inner.Nearest.{Narrowable};
-ghost use Rattle.replay.specs.Inner.Sizes.{FRONT};
+ghost use Rattle.replay.specs.Inner.Sizes.{MOST_WORDS};
 
 use base::limits::{LANGUAGE_LETTERS, MOST_LETTERS};
 use cd_jaro::{jaro, matched, similarity};
 use f32_nearest::nearest_f32;
-use replay::{WORD, first_case, next_case, say, word, words};
+use replay::{MOST_CASES, Tally, WORD, read_case, word, words};
 use std::io;
 
 // The first word of a case: two lists of letters, or a number.
@@ -39,7 +39,7 @@ fn to_u64(x: u32) -> u64
 
 // The f64's bits that stand from the word `at` on, the low word first.
 fn bits_at(buf: &[u8], at: usize) -> u64
-    requires { at ≤ FRONT }
+    requires { at ≤ MOST_WORDS }
 {
     to_u64(word(buf, at)) + HIGH * to_u64(word(buf, at + 1))
 }
@@ -94,16 +94,14 @@ fn same_measure(buf: &[u8], layer: &[u32], language: &[u32]) -> bool
 }
 
 // The letters are put at the front of the two lent lists.
-fn same_lists(buf: &[u8], layer: &mut [u32], language: &mut [u32]) -> bool
-    requires { (length layer.old ≤ MOST_LETTERS) × (length language.old ≤ LANGUAGE_LETTERS) }
-    ensures { (length layer.new ≡ length layer.old) × (length language.new ≡ length language.old) }
-{
+fn same_lists(
+    buf: &[u8],
+    layer: &mut [u32; MOST_LETTERS],
+    language: &mut [u32; LANGUAGE_LETTERS],
+) -> bool {
     let a = word(buf, 1) as usize;
     let b = word(buf, 2) as usize;
-    if a > layer.len() {
-        return false;
-    }
-    if b > language.len() {
+    if a > MOST_LETTERS || b > LANGUAGE_LETTERS {
         return false;
     }
     words(buf, HEAD, &mut layer[..a]);
@@ -111,28 +109,28 @@ fn same_lists(buf: &[u8], layer: &mut [u32], language: &mut [u32]) -> bool
     same_measure(buf, &layer[..a], &language[..b])
 }
 
-fn same_case(buf: &[u8], layer: &mut [u32], language: &mut [u32]) -> bool
-    requires { (length layer.old ≤ MOST_LETTERS) × (length language.old ≤ LANGUAGE_LETTERS) }
-    ensures { (length layer.new ≡ length layer.old) × (length language.new ≡ length language.old) }
-{
-    let kind = word(buf, 0);
-    if kind == LISTS {
-        return same_lists(buf, layer, language);
+fn same_case(
+    buf: &[u8],
+    layer: &mut [u32; MOST_LETTERS],
+    language: &mut [u32; LANGUAGE_LETTERS],
+) -> bool {
+    match word(buf, 0) {
+        LISTS => same_lists(buf, layer, language),
+        NUMBER => same_number(buf),
+        _ => false,
     }
-    if kind == NUMBER {
-        return same_number(buf);
-    }
-    false
 }
 
 fn main(rt: HostRuntime) -> io::Result<()> {
     let mut buf = [0u8; CASE_BYTES];
     let mut layer = [0u32; MOST_LETTERS];
     let mut language = [0u32; LANGUAGE_LETTERS];
-    let mut t = first_case(&rt, &mut buf);
-    while t.size > 0 {
-        let same = same_case(&buf[..t.size], &mut layer, &mut language);
-        t = next_case(&rt, &mut buf, t, same);
+    let mut t = Tally::none();
+    for _ in 0..MOST_CASES {
+        let Some(case) = read_case(&rt, &mut buf) else {
+            break;
+        };
+        t = t.tallied(same_case(case, &mut layer, &mut language));
     }
-    say(&rt, t)
+    t.say(&rt)
 }

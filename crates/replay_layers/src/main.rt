@@ -11,7 +11,7 @@ use base::limits::{PAIR_BYTES, RANGES, WORK_PER_POINT};
 use cd_layers::alpha_unicode_split;
 use cd_letters::{rank, size};
 use cd_work::{lacks_start, letters_start, order_start};
-use replay::{first_case, flip_bits, next_case, say, word, words};
+use replay::{flip_bits, replay_cases, same_words, word, words};
 use std::io;
 
 // The characters of the longest text, and the words of the work area for it.
@@ -34,10 +34,8 @@ fn set_ranges(buf: &[u8], from: usize, n: usize, work: &mut [u32])
     requires { (from ≤ LAST_WORD) × (n ≤ length work.old) × (n ≤ LONGEST) }
     ensures { Filled n work.old work.new }
 {
-    let mut i = 0;
-    while i < n {
+    for i in 0..n {
         work[i] = word(buf, from + i) % RANGES;
-        i += 1;
     }
 }
 
@@ -48,14 +46,10 @@ fn same_letters(buf: &[u8], at: usize, work: &[u32], n: usize, k: u32) -> bool
     let letters = letters_start(n);
     let mut same = true;
     let mut j = at;
-    let mut i = 0;
-    while i < n {
+    for i in 0..n {
         if work[i] == k {
             same = same & (work[letters + i] == word(buf, j));
             j += 1;
-            i += 1;
-        } else {
-            i += 1;
         }
     }
     same
@@ -66,30 +60,24 @@ fn same_ranking(buf: &[u8], at: usize, work: &[u32], n: usize, d: usize) -> bool
     requires { (at ≤ LAST_WORD + LONGEST + 2) × (d ≤ n) × (layout.words n ≤ length work.now) × (n ≤ LONGEST) }
 {
     let order = order_start(n);
-    let mut same = true;
-    let mut i = 0;
-    while i < d {
-        same = same & (work[order + i] == word(buf, at + i));
-        i += 1;
-    }
-    same
+    same_words(&work[order..order + d], buf, at)
 }
 
-// Whether the layer k is as it stands from the word `at` on; then the word behind it, else 0.
-fn past_layer(buf: &[u8], at: usize, work: &mut [u32], n: usize, k: u32) -> usize
+// The word behind the layer k, if it is as it stands from the word `at` on.
+fn past_layer(buf: &[u8], at: usize, work: &mut [u32], n: usize, k: u32) -> Option<usize>
     requires { (at ≤ LAST_WORD) × (layout.words n ≤ length work.old) × (n ≤ LONGEST) }
 {
     let c = size(&work[..n], k);
     if !same_letters(buf, at + 1, work, n, k) {
-        return 0;
+        return None;
     }
     let d = rank(work, n, k);
     let next = at + 1 + c;
     let same = (word(buf, at) as usize == c) & (word(buf, next) as usize == d);
     if same & same_ranking(buf, next + 1, work, n, d) {
-        next + 1 + d
+        Some(next + 1 + d)
     } else {
-        0
+        None
     }
 }
 
@@ -97,17 +85,14 @@ fn same_layers(buf: &[u8], from: usize, work: &mut [u32], n: usize, count: usize
     requires { (from ≤ LAST_WORD) × (layout.words n ≤ length work.old) × (n ≤ LONGEST) × (count ≤ LAST_RANGE) }
 {
     let mut at = from;
-    let mut k = 0;
-    while k < count {
-        let next = past_layer(buf, at, work, n, (k + 1) as u32);
-        if next == 0 {
+    for k in 0..count {
+        let Some(next) = past_layer(buf, at, work, n, (k + 1) as u32) else {
             return false;
-        }
+        };
         if next > LAST_WORD {
             return false;
         }
         at = next;
-        k += 1;
     }
     true
 }
@@ -129,10 +114,7 @@ fn same_text(buf: &[u8], n: usize, p: usize, pairs: &[u8], work: &mut [u32]) -> 
 fn same_case(buf: &[u8]) -> bool {
     let n = word(buf, 0) as usize;
     let p = word(buf, 1) as usize;
-    if n > LONGEST {
-        return false;
-    }
-    if p > LONGEST {
+    if n > LONGEST || p > LONGEST {
         return false;
     }
     let fill = (word(buf, 3) % 256) as u8;
@@ -144,10 +126,5 @@ fn same_case(buf: &[u8]) -> bool {
 
 fn main(rt: HostRuntime) -> io::Result<()> {
     let mut buf = [0u8; CASE_BYTES];
-    let mut t = first_case(&rt, &mut buf);
-    while t.size > 0 {
-        let same = same_case(&buf[..t.size]);
-        t = next_case(&rt, &mut buf, t, same);
-    }
-    say(&rt, t)
+    replay_cases(&rt, &mut buf, same_case)
 }

@@ -5,15 +5,13 @@ ghost use Rattle.std.specs.Prelude.{◌≡◌, ◌≤◌, length};
 ghost use Rattle.md_meaning.specs.Inner.Plain.{PlainAnswer, PlainScore};
 
 use base::limits::{CLASS_RECORD, LONGEST_TEXT, MOST_CLASSES, PAIR_BYTES};
-use base::one;
+use base::{Refusal, one};
 use md::mess_ratio;
-use md_meaning::{Score, Scored};
+use md_meaning::Score;
 use ratio::DETECTORS;
 use ratio::rounding::bits;
 use ratio::telling::{NUMBERS_SHOWN, shown_numbers};
-use replay::{
-    WORD, first_case, float_of, least, next_case, read_case, same_words, say, word, words,
-};
+use replay::{WORD, float_of, least, read_case, replay_cases, same_words, word, words};
 use std::io;
 
 // The first word of a case: a text over the class table of the list's front, one with a class table of its own, and one character repeated.
@@ -71,12 +69,12 @@ fn same_score(s: Score, buf: &[u8]) -> bool
 }
 
 // Whether an answer is the one that a case has.
-fn same_answer(a: Scored, buf: &[u8]) -> bool
+fn same_answer(a: Result<Score, Refusal>, buf: &[u8]) -> bool
     requires { PlainAnswer a }
 {
     match a {
-        Scored::Score(s) => same_score(s, buf),
-        Scored::Refused(r) => (r.number == word(buf, ANSWER_AT))
+        Ok(s) => same_score(s, buf),
+        Err(r) => (r.cause.number() == word(buf, ANSWER_AT))
             & (r.place == word(buf, ANSWER_AT + 1)),
     }
 }
@@ -100,15 +98,14 @@ fn same(text: &[u32], buf: &[u8], classes: &[u8], pairs: &[u8]) -> bool {
 fn same_text(buf: &[u8], from: usize, classes: &[u8], pairs: &[u8]) -> bool {
     let mut text = [0u32; SHORT_TEXT];
     let all = buf.len() / WORD;
-    if from > all {
+    let Some(n) = all.checked_sub(from) else {
         return false;
-    }
-    if all - from > SHORT_TEXT {
-        return false;
-    }
-    let n = all - from;
+    };
     words(buf, from, &mut text);
-    same(&text[..n], buf, classes, pairs)
+    let Some(text) = text.get(..n) else {
+        return false;
+    };
+    same(text, buf, classes, pairs)
 }
 
 // A text behind a class table of its own.
@@ -128,34 +125,20 @@ fn same_repeated(buf: &[u8], classes: &[u8], pairs: &[u8]) -> bool {
 }
 
 fn same_case(buf: &[u8], classes: &[u8], pairs: &[u8]) -> bool {
-    let kind = word(buf, 0);
-    if kind == TEXT {
-        return same_text(buf, REST_AT, classes, pairs);
+    match word(buf, 0) {
+        TEXT => same_text(buf, REST_AT, classes, pairs),
+        OWN => same_own(buf, pairs),
+        REPEATED => same_repeated(buf, classes, pairs),
+        _ => false,
     }
-    if kind == OWN {
-        return same_own(buf, pairs);
-    }
-    if kind == REPEATED {
-        return same_repeated(buf, classes, pairs);
-    }
-    false
 }
 
-// The cases behind the two tables.
-fn replay_all(rt: &(impl Input + Print), classes: &[u8], pairs: &[u8]) -> io::Result<()> {
-    let mut buf = [0u8; CASE_BYTES];
-    let mut t = first_case(rt, &mut buf);
-    while t.size > 0 {
-        let same = same_case(&buf[..t.size], classes, pairs);
-        t = next_case(rt, &mut buf, t, same);
-    }
-    say(rt, t)
-}
-
+// The cases stand behind the two tables.
 fn main(rt: HostRuntime) -> io::Result<()> {
     let mut classes = [0u8; CLASS_BYTES];
     let mut pairs = [0u8; PAIR_ROOM];
-    let c = read_case(&rt, &mut classes);
-    let p = read_case(&rt, &mut pairs);
-    replay_all(&rt, &classes[..c], &pairs[..p])
+    let mut buf = [0u8; CASE_BYTES];
+    let classes = read_case(&rt, &mut classes).unwrap_or(&[]);
+    let pairs = read_case(&rt, &mut pairs).unwrap_or(&[]);
+    replay_cases(&rt, &mut buf, |case| same_case(case, classes, pairs))
 }

@@ -5,9 +5,8 @@
 ghost use Rattle.std.specs.Prelude.{◌≤◌};
 ghost use Rattle.replay_page.specs.Inner.Sizes.{PAGE_ROOM, LONGEST};
 
-use base::Counted;
 use page::{read_page, write_page};
-use replay::{first_case, least, next_case, say, word};
+use replay::{least, replay_cases, same_counted, word};
 use std::io;
 
 // The words at the head of a case.
@@ -22,8 +21,6 @@ const LENGTH: usize = 3;
 const UNIT: usize = 4;
 
 const NUMBER: usize = 5;
-
-const PLACE: usize = 6;
 
 const COUNT: usize = 7;
 
@@ -79,26 +76,20 @@ fn told_element(case: &[u8], i: usize) -> u32 {
 }
 
 fn put_page(case: &[u8], page: &mut [u16]) {
-    let mut i = 0;
-    while i < page.len() {
-        page[i] = entry(case, i);
-        i += 1;
+    for (i, x) in page.iter_mut().enumerate() {
+        *x = entry(case, i);
     }
 }
 
 fn put_page_bytes(case: &[u8], bytes: &mut [u8]) {
-    let mut i = 0;
-    while i < bytes.len() {
-        bytes[i] = (given(case, i) % 256) as u8;
-        i += 1;
+    for (i, x) in bytes.iter_mut().enumerate() {
+        *x = (given(case, i) % 256) as u8;
     }
 }
 
 fn put_text(case: &[u8], text: &mut [u32]) {
-    let mut i = 0;
-    while i < text.len() {
-        text[i] = given(case, i);
-        i += 1;
+    for (i, x) in text.iter_mut().enumerate() {
+        *x = given(case, i);
     }
 }
 
@@ -111,40 +102,13 @@ fn left(case: &[u8], i: usize, untouched: u32) -> u32 {
 }
 
 fn same_text(case: &[u8], out: &[u32]) -> bool {
-    let mut same = true;
-    let mut i = 0;
-    while i < out.len() {
-        same = same & (out[i] == left(case, i, UNTOUCHED));
-        i += 1;
-    }
-    same
-}
-
-fn wide(byte: u8) -> u32 {
-    byte as u32
+    out.iter()
+        .enumerate()
+        .all(|(i, x)| *x == left(case, i, UNTOUCHED))
 }
 
 fn same_bytes(case: &[u8], out: &[u8]) -> bool {
-    let mut same = true;
-    let mut i = 0;
-    while i < out.len() {
-        same = same & (wide(out[i]) == left(case, i, UNTOUCHED_BYTE as u32));
-        i += 1;
-    }
-    same
-}
-
-fn same_answer(case: &[u8], answer: Counted) -> bool {
-    match answer {
-        Counted::Count(count) => (word(case, NUMBER) == 0)
-            & (word(case, PLACE) == 0)
-            & (word(case, COUNT) == count),
-        Counted::Refused(why) => {
-            (word(case, NUMBER) == why.number)
-                & (word(case, PLACE) == why.place)
-                & (word(case, COUNT) == 0)
-        }
-    }
+    out.iter().enumerate().all(|(i, x)| u32::from(*x) == left(case, i, u32::from(UNTOUCHED_BYTE)))
 }
 
 fn page_size(case: &[u8]) -> usize
@@ -164,14 +128,14 @@ fn same_reading(case: &[u8], page: &mut [u16], bytes: &mut [u8], out: &mut [u32]
     put_page(case, page);
     put_page_bytes(case, bytes);
     let answer = read_page(&page[..], &bytes[..], out);
-    same_answer(case, answer) & same_text(case, &out[..])
+    same_counted(answer, case, NUMBER) & same_text(case, &out[..])
 }
 
 fn same_writing(case: &[u8], page: &mut [u16], text: &mut [u32], out: &mut [u8]) -> bool {
     put_page(case, page);
     put_text(case, text);
     let answer = write_page(&page[..], &text[..], out);
-    same_answer(case, answer) & same_bytes(case, &out[..])
+    same_counted(answer, case, NUMBER) & same_bytes(case, &out[..])
 }
 
 fn reading(case: &[u8]) -> bool {
@@ -209,10 +173,5 @@ fn same_case(case: &[u8]) -> bool {
 
 fn main(rt: HostRuntime) -> io::Result<()> {
     let mut buf = [0u8; CASE_BYTES];
-    let mut t = first_case(&rt, &mut buf);
-    while t.size > 0 {
-        let same = same_case(&buf[..t.size]);
-        t = next_case(&rt, &mut buf, t, same);
-    }
-    say(&rt, t)
+    replay_cases(&rt, &mut buf, same_case)
 }

@@ -12,7 +12,7 @@ use md_eight::Detectors;
 use ratio::rounding::{bits, sum};
 use ratio::telling::{NUMBERS_SHOWN, eight_shown, shown_numbers};
 use ratio::{DETECTORS, Ratios};
-use replay::{WORD, byte, first_case, next_case, same_words, say, word};
+use replay::{WORD, byte, replay_cases, same_words, word};
 use std::io;
 
 // The words before the letters: the sum, eight ratios, their counts, and the number of letters.
@@ -52,11 +52,8 @@ fn fed_all(case: &[u8], text: &[u8]) -> Detectors
     ensures { Countable result }
 {
     let mut s = Detectors::start();
-    let mut i = 0;
-    while i < text.len() {
-        let k = text[i];
-        s = s.feed(letter_class(case, k), suspicious(case, k, s.last_range()));
-        i += 1;
+    for k in text {
+        s = s.feed(letter_class(case, *k), suspicious(case, *k, s.last_range()));
     }
     s
 }
@@ -88,24 +85,25 @@ fn same_counts(case: &[u8], s: Detectors) -> bool
     same_words(&shown_numbers(shown), case, COUNTS_AT)
 }
 
-fn same_case(case: &[u8]) -> bool
-    requires { length case.now ≤ LARGEST }
+// Whether the detectors, fed the text, answer as the case says.
+fn same_text(case: &[u8], text: &[u8]) -> bool
+    requires { length text.now ≤ LARGEST }
 {
+    let s = fed_all(case, text);
+    same_ratios(case, ratios_of(s)) & same_counts(case, s)
+}
+
+fn same_case(case: &[u8]) -> bool {
     let letters = word(case, HEAD - 1) as usize;
     let from = (HEAD + LETTER * letters) * WORD;
     if from > case.len() {
         return false;
     }
-    let s = fed_all(case, &case[from..]);
-    same_ratios(case, ratios_of(s)) & same_counts(case, s)
+    let text = &case[from..];
+    (text.len() <= LONGEST_CASE) && same_text(case, text)
 }
 
 fn main(rt: HostRuntime) -> io::Result<()> {
     let mut buf = [0u8; LONGEST_CASE];
-    let mut t = first_case(&rt, &mut buf);
-    while t.size > 0 {
-        let same = same_case(&buf[..t.size]);
-        t = next_case(&rt, &mut buf, t, same);
-    }
-    say(&rt, t)
+    replay_cases(&rt, &mut buf, same_case)
 }

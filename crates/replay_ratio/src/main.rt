@@ -6,13 +6,13 @@ ghost use Rattle.std.specs.Prelude.{◌≤◌};
 ghost use Rattle.ratio.specs.Inner.Fraction.{Small, Proper};
 ghost use Rattle.ratio.specs.Fraction.{share_of};
 ghost use Rattle.ratio.specs.Inner.Eight.{EachSmall};
-ghost use Rattle.replay.specs.Inner.Sizes.{FRONT};
+ghost use Rattle.replay.specs.Inner.Sizes.{MOST_WORDS};
 
 use base::one;
 use ratio::finite::is_finite;
 use ratio::rounding::{ratios, rounded, sum};
 use ratio::{Counts, DETECTORS, EightCounts, Fraction, at_least, counts_of, fraction_of};
-use replay::{first_case, float_of, next_case, say, word};
+use replay::{float_of, replay_cases, word};
 use std::io;
 
 // The first word of a case: eight fractions, each with its answers, and the sum; or a threshold.
@@ -43,7 +43,7 @@ fn bounded(f: Fraction) -> Fraction
 
 // The fraction that stands from the word `at` on; 0 over 1 where it is over 0.
 fn fraction_at(buf: &[u8], at: usize) -> Fraction
-    requires { at ≤ FRONT }
+    requires { at ≤ MOST_WORDS }
     ensures { Proper result }
 {
     fraction_of(counts_of(
@@ -74,7 +74,7 @@ fn reached(f: Fraction) -> u32
 
 // Whether the fraction from the word `at` on has the answers that stand behind it.
 fn same_ratio(buf: &[u8], at: usize) -> bool
-    requires { at ≤ FRONT }
+    requires { at ≤ MOST_WORDS }
 {
     let f = fraction_at(buf, at);
     (ratio_bits(f) == word(buf, at + 2))
@@ -83,7 +83,7 @@ fn same_ratio(buf: &[u8], at: usize) -> bool
 }
 
 fn counts_at(buf: &[u8], at: usize) -> Counts
-    requires { at ≤ FRONT }
+    requires { at ≤ MOST_WORDS }
     ensures { Small (share_of result) }
 {
     counts_of(fraction_at(buf, at), true)
@@ -111,32 +111,19 @@ fn sum_bits(c: EightCounts) -> u32
 }
 
 fn same_fractions(buf: &[u8]) -> bool {
-    let mut same = sum_bits(counts_in(buf)) == word(buf, 1 + DETECTORS * WORDS);
-    let mut i: usize = 0;
-    while i < DETECTORS {
-        same = same & same_ratio(buf, 1 + i * WORDS);
-        i += 1;
-    }
-    same
+    (sum_bits(counts_in(buf)) == word(buf, 1 + DETECTORS * WORDS))
+        & (0..DETECTORS).all(|i| same_ratio(buf, 1 + i * WORDS))
 }
 
 fn same_case(buf: &[u8]) -> bool {
-    let kind = word(buf, 0);
-    if kind == FRACTIONS {
-        same_fractions(buf)
-    } else if kind == THRESHOLD {
-        one(is_finite(float_of(word(buf, 1)))) == word(buf, 2)
-    } else {
-        false
+    match word(buf, 0) {
+        FRACTIONS => same_fractions(buf),
+        THRESHOLD => one(is_finite(float_of(word(buf, 1)))) == word(buf, 2),
+        _ => false,
     }
 }
 
 fn main(rt: HostRuntime) -> io::Result<()> {
     let mut buf = [0u8; CASE_BYTES];
-    let mut t = first_case(&rt, &mut buf);
-    while t.size > 0 {
-        let same = same_case(&buf[..t.size]);
-        t = next_case(&rt, &mut buf, t, same);
-    }
-    say(&rt, t)
+    replay_cases(&rt, &mut buf, same_case)
 }

@@ -5,9 +5,11 @@
 ghost use Rattle.std.specs.Prelude.{◌≤◌, ◌<◌};
 ghost use Rattle.replay_ring.specs.Inner.Sizes.{SMALL, RING, OUTPUT};
 
-use replay::{WORD, byte, first_case, least, next_case, say, word};
+use base::Refusal;
+use base::refusals::ACCEPTED;
+use replay::{WORD, byte, least, replay_cases, same_words, word};
 use ring::{MOST_SLOTS, RECORD, flush_records, open_ring, put_record};
-use ring_meaning::{Ringed, Verdict};
+use ring_meaning::{Kept, Verdict};
 use std::io;
 
 // The words at the head of a case: which call, its arguments, its answer, and how many bytes of the ring and of the output are told.
@@ -36,12 +38,6 @@ const MOST: usize = 10;
 const ROOM: usize = 11;
 
 const NUMBER: usize = 12;
-
-const PLACE: usize = 13;
-
-const NEXT_HEAD: usize = 14;
-
-const NEXT_COUNT: usize = 15;
 
 const TOLD: usize = 16;
 
@@ -103,39 +99,19 @@ fn byte_out(case: &[u8], i: usize) -> u8 {
 }
 
 fn put_ring(case: &[u8], ring: &mut [u8]) {
-    let mut i = 0;
-    while i < ring.len() {
-        ring[i] = byte_before(case, i);
-        i += 1;
-    }
-}
-
-fn mark_output(out: &mut [u8]) {
-    let mut i = 0;
-    while i < out.len() {
-        out[i] = UNTOUCHED;
-        i += 1;
+    for (i, x) in ring.iter_mut().enumerate() {
+        *x = byte_before(case, i);
     }
 }
 
 fn same_ring(case: &[u8], ring: &[u8]) -> bool {
-    let mut same = true;
-    let mut i = 0;
-    while i < ring.len() {
-        same = same & (ring[i] == byte_after(case, i));
-        i += 1;
-    }
-    same
+    ring.iter()
+        .enumerate()
+        .all(|(i, x)| *x == byte_after(case, i))
 }
 
 fn same_output(case: &[u8], out: &[u8]) -> bool {
-    let mut same = true;
-    let mut i = 0;
-    while i < out.len() {
-        same = same & (out[i] == byte_out(case, i));
-        i += 1;
-    }
-    same
+    out.iter().enumerate().all(|(i, x)| *x == byte_out(case, i))
 }
 
 fn line_of(case: &[u8]) -> u64 {
@@ -153,7 +129,7 @@ fn verdict_of(case: &[u8]) -> Verdict {
 }
 
 // The answer of the case's call.
-fn ring_answer(case: &[u8], ring: &mut [u8], out: &mut [u8]) -> Ringed {
+fn ring_answer(case: &[u8], ring: &mut [u8], out: &mut [u8]) -> Result<Kept, Refusal> {
     let call = word(case, CALL);
     let head = word(case, HEAD);
     let count = word(case, COUNT);
@@ -166,27 +142,13 @@ fn ring_answer(case: &[u8], ring: &mut [u8], out: &mut [u8]) -> Ringed {
     flush_records(&ring[..], head, count, word(case, MOST), out)
 }
 
-fn same_answer(case: &[u8], answer: Ringed) -> bool {
-    match answer {
-        Ringed::Kept(kept) => (word(case, NUMBER) == 0)
-            & (word(case, PLACE) == 0)
-            & (word(case, NEXT_HEAD) == kept.head)
-            & (word(case, NEXT_COUNT) == kept.count),
-        Ringed::Refused(why) => {
-            (word(case, NUMBER) == why.number)
-                & (word(case, PLACE) == why.place)
-                & (word(case, NEXT_HEAD) == 0)
-                & (word(case, NEXT_COUNT) == 0)
-        }
-    }
-}
-
-// Whether the case's call answers and leaves what the list says.
-fn same_case(case: &[u8], ring: &mut [u8], out: &mut [u8]) -> bool {
-    put_ring(case, ring);
-    mark_output(out);
-    let told = ring_answer(case, ring, out);
-    same_answer(case, told) & (same_ring(case, &ring[..]) & same_output(case, &out[..]))
+// Whether number, place, head and count are those of the case.
+fn same_answer(case: &[u8], answer: Result<Kept, Refusal>) -> bool {
+    let told = match answer {
+        Ok(kept) => [ACCEPTED, 0, kept.head, kept.count],
+        Err(why) => [why.cause.number(), why.place, 0, 0],
+    };
+    same_words(&told, case, NUMBER)
 }
 
 fn ring_size(case: &[u8]) -> usize
@@ -201,16 +163,22 @@ fn output_room(case: &[u8]) -> usize
     least(word(case, ROOM) as usize, OUTPUT)
 }
 
+// Whether the case's call answers and leaves what the list says.
+fn same_call(case: &[u8], ring: &mut [u8], out: &mut [u8]) -> bool {
+    put_ring(case, ring);
+    let answer = ring_answer(case, ring, out);
+    same_answer(case, answer) & same_ring(case, &ring[..]) & same_output(case, &out[..])
+}
+
+fn same_case(case: &[u8]) -> bool {
+    let mut ring = [0u8; RING];
+    let mut out = [UNTOUCHED; OUTPUT];
+    let size = ring_size(case);
+    let room = output_room(case);
+    same_call(case, &mut ring[..size], &mut out[..room])
+}
+
 fn main(rt: HostRuntime) -> io::Result<()> {
     let mut buf = [0u8; CASE_BYTES];
-    let mut ring = [0u8; RING];
-    let mut out = [0u8; OUTPUT];
-    let mut t = first_case(&rt, &mut buf);
-    while t.size > 0 {
-        let size = ring_size(&buf[..t.size]);
-        let room = output_room(&buf[..t.size]);
-        let same = same_case(&buf[..t.size], &mut ring[..size], &mut out[..room]);
-        t = next_case(&rt, &mut buf, t, same);
-    }
-    say(&rt, t)
+    replay_cases(&rt, &mut buf, same_case)
 }

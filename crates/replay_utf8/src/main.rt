@@ -5,9 +5,8 @@
 ghost use Rattle.std.specs.Prelude.{◌≤◌, ◌<◌};
 ghost use Rattle.replay_utf8.specs.Inner.Sizes.{SMALL, INPUT, OUTPUT};
 
-use base::Counted;
 use base::limits::{LONGEST_BYTES, LONGEST_TEXT};
-use replay::{WORD, byte, first_case, least, next_case, say, word};
+use replay::{WORD, byte, least, replay_cases, same_counted, word};
 use std::io;
 use utf8::read_utf8;
 
@@ -21,8 +20,6 @@ const UNIT: usize = 2;
 const TAIL: usize = 3;
 
 const NUMBER: usize = 4;
-
-const PLACE: usize = 5;
 
 const COUNT: usize = 6;
 
@@ -90,50 +87,15 @@ fn output_word(case: &[u8], i: usize) -> u32 {
 }
 
 fn put_input(case: &[u8], input: &mut [u8]) {
-    let mut i = 0;
-    while i < input.len() {
-        input[i] = input_byte(case, i);
-        i += 1;
-    }
-}
-
-fn put_untouched(out: &mut [u32]) {
-    let mut i = 0;
-    while i < out.len() {
-        out[i] = UNTOUCHED;
-        i += 1;
+    for (i, x) in input.iter_mut().enumerate() {
+        *x = input_byte(case, i);
     }
 }
 
 fn same_output(case: &[u8], out: &[u32]) -> bool {
-    let mut same = true;
-    let mut i = 0;
-    while i < out.len() {
-        same = same & (out[i] == output_word(case, i));
-        i += 1;
-    }
-    same
-}
-
-fn same_answer(case: &[u8], answer: Counted) -> bool {
-    match answer {
-        Counted::Count(count) => (word(case, NUMBER) == 0)
-            & (word(case, PLACE) == 0)
-            & (word(case, COUNT) == count),
-        Counted::Refused(why) => {
-            (word(case, NUMBER) == why.number)
-                & (word(case, PLACE) == why.place)
-                & (word(case, COUNT) == 0)
-        }
-    }
-}
-
-// Whether the reading of the case's input, into an output of its room, answers what the list says.
-fn same_case(case: &[u8], input: &mut [u8], out: &mut [u32]) -> bool {
-    put_input(case, input);
-    put_untouched(out);
-    let answer = read_utf8(&input[..], out);
-    same_answer(case, answer) & same_output(case, &out[..])
+    out.iter()
+        .enumerate()
+        .all(|(i, x)| *x == output_word(case, i))
 }
 
 fn input_size(case: &[u8]) -> usize
@@ -148,16 +110,22 @@ fn room_of(case: &[u8]) -> usize
     least(word(case, ROOM) as usize, OUTPUT)
 }
 
+// Whether the reading of the case's input, into an output of its room, answers what the list says.
+fn same_reading(case: &[u8], input: &mut [u8], out: &mut [u32]) -> bool {
+    put_input(case, input);
+    let answer = read_utf8(&input[..], out);
+    same_counted(answer, case, NUMBER) & same_output(case, &out[..])
+}
+
+fn same_case(case: &[u8]) -> bool {
+    let mut input = [0u8; INPUT];
+    let mut out = [UNTOUCHED; OUTPUT];
+    let size = input_size(case);
+    let room = room_of(case);
+    same_reading(case, &mut input[..size], &mut out[..room])
+}
+
 fn main(rt: HostRuntime) -> io::Result<()> {
     let mut buf = [0u8; CASE_BYTES];
-    let mut input = [0u8; INPUT];
-    let mut out = [0u32; OUTPUT];
-    let mut t = first_case(&rt, &mut buf);
-    while t.size > 0 {
-        let size = input_size(&buf[..t.size]);
-        let room = room_of(&buf[..t.size]);
-        let same = same_case(&buf[..t.size], &mut input[..size], &mut out[..room]);
-        t = next_case(&rt, &mut buf, t, same);
-    }
-    say(&rt, t)
+    replay_cases(&rt, &mut buf, same_case)
 }

@@ -5,9 +5,8 @@
 ghost use Rattle.std.specs.Prelude.{◌*◌, ◌≤◌, ◌<◌};
 ghost use Rattle.replay_utf8_write.specs.Inner.Sizes.{SMALL, INPUT, OUTPUT};
 
-use base::Counted;
 use base::limits::{LONGEST_BYTES, LONGEST_TEXT};
-use replay::{WORD, byte, first_case, least, next_case, say, word};
+use replay::{WORD, byte, least, replay_cases, same_counted, word};
 use std::io;
 use utf8_write::write_utf8;
 
@@ -21,8 +20,6 @@ const UNIT: usize = 2;
 const TAIL: usize = 3;
 
 const NUMBER: usize = 4;
-
-const PLACE: usize = 5;
 
 const COUNT: usize = 6;
 
@@ -90,50 +87,15 @@ fn output_byte(case: &[u8], i: usize) -> u8 {
 }
 
 fn put_points(case: &[u8], input: &mut [u32]) {
-    let mut i = 0;
-    while i < input.len() {
-        input[i] = input_point(case, i);
-        i += 1;
-    }
-}
-
-fn put_marks(out: &mut [u8]) {
-    let mut i = 0;
-    while i < out.len() {
-        out[i] = MARK;
-        i += 1;
+    for (i, x) in input.iter_mut().enumerate() {
+        *x = input_point(case, i);
     }
 }
 
 fn same_output(case: &[u8], out: &[u8]) -> bool {
-    let mut same = true;
-    let mut i = 0;
-    while i < out.len() {
-        same = same & (out[i] == output_byte(case, i));
-        i += 1;
-    }
-    same
-}
-
-fn same_answer(case: &[u8], answer: Counted) -> bool {
-    match answer {
-        Counted::Count(count) => (word(case, NUMBER) == 0)
-            & (word(case, PLACE) == 0)
-            & (word(case, COUNT) == count),
-        Counted::Refused(why) => {
-            (word(case, NUMBER) == why.number)
-                & (word(case, PLACE) == why.place)
-                & (word(case, COUNT) == 0)
-        }
-    }
-}
-
-// Whether the writing of the case's numbers, into an output of its room, answers what the list says.
-fn same_case(case: &[u8], input: &mut [u32], out: &mut [u8]) -> bool {
-    put_points(case, input);
-    put_marks(out);
-    let answer = write_utf8(&input[..], out);
-    same_answer(case, answer) & same_output(case, &out[..])
+    out.iter()
+        .enumerate()
+        .all(|(i, x)| *x == output_byte(case, i))
 }
 
 fn points_size(case: &[u8]) -> usize
@@ -148,16 +110,22 @@ fn bytes_room(case: &[u8]) -> usize
     least(word(case, ROOM) as usize, OUTPUT)
 }
 
+// Whether the writing of the case's numbers, into an output of its room, answers what the list says.
+fn same_writing(case: &[u8], input: &mut [u32], out: &mut [u8]) -> bool {
+    put_points(case, input);
+    let answer = write_utf8(&input[..], out);
+    same_counted(answer, case, NUMBER) & same_output(case, &out[..])
+}
+
+fn same_case(case: &[u8]) -> bool {
+    let mut input = [0u32; INPUT];
+    let mut out = [MARK; OUTPUT];
+    let size = points_size(case);
+    let room = bytes_room(case);
+    same_writing(case, &mut input[..size], &mut out[..room])
+}
+
 fn main(rt: HostRuntime) -> io::Result<()> {
     let mut buf = [0u8; CASE_BYTES];
-    let mut input = [0u32; INPUT];
-    let mut out = [0u8; OUTPUT];
-    let mut t = first_case(&rt, &mut buf);
-    while t.size > 0 {
-        let size = points_size(&buf[..t.size]);
-        let room = bytes_room(&buf[..t.size]);
-        let same = same_case(&buf[..t.size], &mut input[..size], &mut out[..room]);
-        t = next_case(&rt, &mut buf, t, same);
-    }
-    say(&rt, t)
+    replay_cases(&rt, &mut buf, same_case)
 }

@@ -14,11 +14,7 @@ pub fn put_bytes(bytes: &[u8], out: &mut [u8], at: usize)
     requires { at + length bytes.now ≤ length out.old }
     ensures { out.new ≡ put out.old at bytes.now }
 {
-    let mut k = 0;
-    while k < bytes.len() {
-        out[at + k] = bytes[k];
-        k += 1;
-    }
+    out[at..at + bytes.len()].copy_from_slice(bytes);
 }
 
 // Puts the n oldest records of a ring into the first places of an output that has room.
@@ -27,11 +23,9 @@ pub fn copy_records(ring: &[u8], head: usize, n: usize, out: &mut [u8])
     ensures { out.new ≡ put out.old 0 (flatten (records_from ring.now head n)) }
 {
     let slots = ring.len() / RECORD;
-    let mut i = 0;
-    while i < n {
+    for i in 0..n {
         let from = RECORD * wrapped(head + i, slots);
         let end = from + RECORD;
         put_bytes(&ring[from..end], out, RECORD * i);
-        i += 1;
     }
 }

@@ -16,39 +16,12 @@ const STOPPED_AT: usize = 16;
 
 const REFUSAL_AT: usize = 20;
 
-// The four bytes of a number, lowest first. The compiler makes one store of it.
-fn bytes_of(v: u32) -> [u8; 4]
-    ensures { result ≡ le_bytes 4 v }
-{
-    let b0 = (v % 256) as u8;
-    let b1 = (v / 256 % 256) as u8;
-    let b2 = (v / 256 / 256 % 256) as u8;
-    let b3 = (v / 256 / 256 / 256 % 256) as u8;
-    [b0, b1, b2, b3]
-}
-
-// The eight bytes of a number, lowest first.
-fn wide_bytes_of(v: u64) -> [u8; 8]
-    ensures { result ≡ le_bytes 8 v }
-{
-    let b0 = (v % 256) as u8;
-    let b1 = (v / 256 % 256) as u8;
-    let b2 = (v / 256 / 256 % 256) as u8;
-    let b3 = (v / 256 / 256 / 256 % 256) as u8;
-    let b4 = (v / 256 / 256 / 256 / 256 % 256) as u8;
-    let b5 = (v / 256 / 256 / 256 / 256 / 256 % 256) as u8;
-    let b6 = (v / 256 / 256 / 256 / 256 / 256 / 256 % 256) as u8;
-    let b7 = (v / 256 / 256 / 256 / 256 / 256 / 256 / 256 % 256) as u8;
-    [b0, b1, b2, b3, b4, b5, b6, b7]
-}
-
-// Puts the bytes of a number into out from a place on.
+// Puts the bytes of a number into out from a place on, lowest first. The compiler makes one store of them.
 fn put_word(v: u32, out: &mut [u8], at: usize)
     requires { at + 4 ≤ length out.old }
     ensures { out.new ≡ put out.old at (le_bytes 4 v) }
 {
-    let bytes = bytes_of(v);
-    put_bytes(&bytes, out, at);
+    put_bytes(&v.to_le_bytes(), out, at);
 }
 
 // The record of a verdict.
@@ -56,8 +29,7 @@ pub fn record_of(v: Verdict) -> [u8; RECORD]
     ensures { result ≡ record_of v }
 {
     let mut record = [0u8; RECORD];
-    let line = wide_bytes_of(v.line);
-    put_bytes(&line, &mut record, 0);
+    put_bytes(&v.line.to_le_bytes(), &mut record, 0);
     put_word(v.bits, &mut record, BITS_AT);
     put_word(v.fed, &mut record, FED_AT);
     put_word(v.stopped, &mut record, STOPPED_AT);

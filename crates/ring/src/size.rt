@@ -1,5 +1,5 @@
-// The tests of a ring, and the lesser of two numbers.
-ghost use Rattle.std.specs.Prelude.{◌≡◌, min, ◌+◌, ◌%◌, ◌<◌};
+// The tests of a ring, and a slot's number behind the last slot.
+ghost use Rattle.std.specs.Prelude.{◌≡◌, ◌+◌, ◌%◌, ◌<◌};
 ghost use Rattle.ring_meaning.specs.Ring.{wrong_size, wrong_ring};
 
 use crate::{MOST_SLOTS, RECORD};
@@ -18,12 +18,6 @@ pub fn wrong_ring(ring: &[u8], head: u32, count: u32) -> bool
 {
     let slots = ring.len() / RECORD;
     wrong_size(ring) | (!((head as usize) < slots) | (slots < count as usize))
-}
-
-pub fn lesser(a: u32, b: u32) -> u32
-    ensures { result ≡ min a b }
-{
-    if a < b { a } else { b }
 }
 
 // A slot's number modulo the size, of one that is less than a round too large. It costs no division.

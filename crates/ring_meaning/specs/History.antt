@@ -4,10 +4,9 @@
 -- accepted puts, in their order, are the flushed records, in theirs, and then those in the ring. So none is lost, none comes out twice, and each has
 -- the bytes that were put.
 -- Assumes nothing.
-use Rattle.std.specs.Prelude.{ℕ, zero, suc, ◌-◌, ◌≡◌, List, [], ◌∷◌, ◌++◌, length, take, drop}
+use Rattle.base.specs.declared.Refusal.{Refusal}
+use Rattle.std.specs.Prelude.{ℕ, zero, suc, ◌-◌, ◌≡◌, List, [], ◌∷◌, ◌++◌, length, take, drop, Result, Ok, Err}
 use Rattle.ring_meaning.specs.declared.Kept.{Kept}
-use Rattle.ring_meaning.specs.declared.Ringed.{Ringed}
-use Rattle.ring_meaning.specs.declared.Ringed.TheVariants.{Kept as Keep, Refused as NotKept}
 use Rattle.ring_meaning.specs.declared.Verdict.{Verdict}
 use Rattle.ring_meaning.specs.Record.{RECORD, record_of}
 use Rattle.ring_meaning.specs.Ring.{records_from}
@@ -21,13 +20,13 @@ pub record State : Type 0 where
 
 -- a call and its answer: a put, with the verdict and the ring as it was left; a flush, with the stated number and the output before and after
 pub data Event : Type 0 where
-  Put : (verdict : Verdict) (left : List ℕ) → Ringed → Event
-  Flush : (most : ℕ) (out left : List ℕ) → Ringed → Event
+  Put : (verdict : Verdict) (left : List ℕ) → Result Kept Refusal → Event
+  Flush : (most : ℕ) (out left : List ℕ) → Result Kept Refusal → Event
 
 -- "as the last left them": the ring as it stands; head and count of an accepted call's answer, the caller's own where the call was refused
-unfoldable pub keeping : State → List ℕ → Ringed → State
-keeping s ring (Keep k) = record { ring = ring; head = k.head; count = k.count }
-keeping s ring (NotKept r) = record { ring = ring; head = s.head; count = s.count }
+unfoldable pub keeping : State → List ℕ → Result Kept Refusal → State
+keeping s ring (Ok k) = record { ring = ring; head = k.head; count = k.count }
+keeping s ring (Err r) = record { ring = ring; head = s.head; count = s.count }
 
 unfoldable pub next : State → Event → State
 next s (Put v left a) = keeping s left a
@@ -56,8 +55,8 @@ opened ring k = record { ring = ring; head = k.head; count = k.count }
 
 -- the records of the accepted puts
 unfoldable pub put_in : Event → List (List ℕ)
-put_in (Put v left (Keep k)) = record_of v ∷ []
-put_in (Put v left (NotKept r)) = []
+put_in (Put v left (Ok k)) = record_of v ∷ []
+put_in (Put v left (Err r)) = []
 put_in (Flush most out left a) = []
 
 unfoldable pub puts : List Event → List (List ℕ)
@@ -72,8 +71,8 @@ first_records bytes (suc n) = take RECORD bytes ∷ first_records (drop RECORD b
 -- the records that came out: as many as the count fell by, at the front of the output
 unfoldable pub came_out : State → Event → List (List ℕ)
 came_out s (Put v left a) = []
-came_out s (Flush most out left (Keep k)) = first_records left (s.count - k.count)
-came_out s (Flush most out left (NotKept r)) = []
+came_out s (Flush most out left (Ok k)) = first_records left (s.count - k.count)
+came_out s (Flush most out left (Err r)) = []
 
 unfoldable pub flushed : State → List Event → List (List ℕ)
 flushed s [] = []

@@ -20,10 +20,3 @@ pub struct Kept {
     pub head: u32,
     pub count: u32,
 }
-
-// What to keep from now on, or why a call refused.
-#[derive(Clone, Copy)]
-pub enum Ringed {
-    Kept(Kept),
-    Refused(Refusal),
-}

@@ -6,8 +6,7 @@ ghost use Rattle.std.specs.Prelude.{◌≤◌, ◌≡◌, length};
 ghost use Rattle.program.specs.Inner.Line.{LONGEST_LINE};
 
 use base::limits::PAIR_BYTES;
-use base::refusals::TOO_LONG;
-use base::{Counted, Refusal};
+use base::{Cause, Refusal};
 use md_lines::{NUMBERS_PER_LINE, score_lines};
 use md_report::{LONGEST_REPORT, report};
 use program::line::put_refused;
@@ -36,8 +35,8 @@ fn report_rows(rows: &[u32], out: &mut [u8]) -> usize
     ensures { result ≤ length out.old }
 {
     match report(rows, out) {
-        Counted::Refused(why) => put_refused(out, why),
-        Counted::Count(n) => n as usize,
+        Err(why) => put_refused(out, why),
+        Ok(n) => n as usize,
     }
 }
 
@@ -50,7 +49,7 @@ fn report_lines(bytes: &[u8], out: &mut [u8]) -> usize
         return put_refused(
             out,
             Refusal {
-                number: TOO_LONG,
+                cause: Cause::TooLong,
                 place: 0,
             },
         );
@@ -59,8 +58,8 @@ fn report_lines(bytes: &[u8], out: &mut [u8]) -> usize
     let pairs = [0u8; PAIR_BYTES];
     let mut rows = no_rows();
     match score_lines(bytes, THRESHOLD, &classes, &pairs, &mut rows) {
-        Counted::Refused(why) => put_refused(out, why),
-        Counted::Count(lines) => report_rows(&rows[..lines as usize * NUMBERS_PER_LINE], out),
+        Err(why) => put_refused(out, why),
+        Ok(lines) => report_rows(&rows[..lines as usize * NUMBERS_PER_LINE], out),
     }
 }
 

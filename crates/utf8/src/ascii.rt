@@ -25,14 +25,13 @@ fn past_eights(b: &[u8], i: usize) -> usize
     requires { i ≤ length b.now }
     ensures { AsciiRun b.now i result }
 {
-    let mut j = i;
-    while 8 <= b.len() - j {
-        if !eight_ascii(b, j) {
-            return j;
+    let eights = (b.len() - i) / 8;
+    for k in 0..eights {
+        if !eight_ascii(b, i + 8 * k) {
+            return i + 8 * k;
         }
-        j += 8;
     }
-    j
+    i + 8 * eights
 }
 
 // Past single ASCII bytes from i on.
@@ -40,14 +39,12 @@ fn past_ones(b: &[u8], i: usize) -> usize
     requires { i ≤ length b.now }
     ensures { AsciiRun b.now i result }
 {
-    let mut j = i;
-    while j < b.len() {
+    for j in i..b.len() {
         if 0x80 <= b[j] {
             return j;
         }
-        j += 1;
     }
-    j
+    b.len()
 }
 
 // Past the ASCII bytes from i on. The first byte is tested by itself: in most scripts a space stands alone.
@@ -69,9 +66,7 @@ pub fn widen(ascii: &[u8], out: &mut [u32], at: usize)
     requires { at + length ascii.now ≤ length out.old }
     ensures { out.new ≡ put out.old at ascii.now }
 {
-    let mut k = 0;
-    while k < ascii.len() {
-        out[at + k] = wide(ascii[k]);
-        k += 1;
+    for (k, x) in ascii.iter().enumerate() {
+        out[at + k] = wide(*x);
     }
 }

@@ -12,17 +12,16 @@ ghost use Rattle.utf8_meaning.specs.Answer.{answer, out_after};
 
 use ascii::{past_ascii, widen};
 use base::limits::{LONGEST_BYTES, LONGEST_TEXT};
-use base::refusals::{ILL_FORMED, NO_ROOM, TOO_LONG};
-use base::{Counted, not_counted, wide};
-use utf8_meaning::Measured;
+use base::{Cause, Refusal, refuse, wide};
 use utf8_table::{four_at, is_four, is_three, is_two, three_at, two_at};
 
 // How many code points well-formed bytes have, or where the first fault is.
-pub fn measure(bytes: &[u8]) -> Measured
+pub fn measure(bytes: &[u8]) -> Result<usize, usize>
     ensures { result ≡ measured bytes.now }
 {
     let mut i = 0;
     let mut n = 0;
+    // Stays a while: a turn passes a sequence of one to four bytes, or a run of ASCII, by what stands there.
     while i < bytes.len() {
         let a = bytes[i];
         if a < 0x80 {
@@ -31,25 +30,25 @@ pub fn measure(bytes: &[u8]) -> Measured
             i = next;
         } else if a < 0xE0 {
             if !is_two(bytes, i) {
-                return Measured::Fault(i);
+                return Err(i);
             }
             i += 2;
             n += 1;
         } else if a < 0xF0 {
             if !is_three(bytes, i) {
-                return Measured::Fault(i);
+                return Err(i);
             }
             i += 3;
             n += 1;
         } else {
             if !is_four(bytes, i) {
-                return Measured::Fault(i);
+                return Err(i);
             }
             i += 4;
             n += 1;
         }
     }
-    Measured::Points(n)
+    Ok(n)
 }
 
 // The code points of well-formed bytes, into the first places of an output that has room.
@@ -59,6 +58,7 @@ pub fn fill(bytes: &[u8], out: &mut [u32])
 {
     let mut from = 0;
     let mut to = 0;
+    // Stays a while: a turn passes a sequence of one to four bytes, or a run of ASCII, by what stands there.
     while from < bytes.len() {
         let a = bytes[from];
         if a < 0x80 {
@@ -86,36 +86,32 @@ pub fn fill(bytes: &[u8], out: &mut [u32])
 }
 
 // The number of code points, or the first of the refusals that lie in the bytes.
-pub fn count_utf8(bytes: &[u8]) -> Counted
+pub fn count_utf8(bytes: &[u8]) -> Result<u32, Refusal>
     ensures { result ≡ count_utf8 bytes.now }
 {
     if LONGEST_BYTES < bytes.len() {
-        return not_counted(TOO_LONG, 0);
+        return refuse(Cause::TooLong, 0);
     }
     match measure(bytes) {
-        Measured::Fault(place) => not_counted(ILL_FORMED, place as u32),
-        Measured::Points(count) => {
+        Err(place) => refuse(Cause::IllFormed, place as u32),
+        Ok(count) => {
             if LONGEST_TEXT < count {
-                return not_counted(TOO_LONG, 0);
+                return refuse(Cause::TooLong, 0);
             }
-            Counted::Count(count as u32)
+            Ok(count as u32)
         }
     }
 }
 
 // The code points of bytes, written into the first places of out; the rest of out stays, and all of it in a refusal.
-pub fn read_utf8(bytes: &[u8], out: &mut [u32]) -> Counted
+pub fn read_utf8(bytes: &[u8], out: &mut [u32]) -> Result<u32, Refusal>
     ensures value { result ≡ answer bytes.now (length out.old) }
     ensures out_after { out.new ≡ out_after bytes.now out.old }
 {
-    match count_utf8(bytes) {
-        Counted::Refused(why) => Counted::Refused(why),
-        Counted::Count(count) => {
-            if out.len() < count as usize {
-                return not_counted(NO_ROOM, 0);
-            }
-            fill(bytes, out);
-            Counted::Count(count)
-        }
+    let count = count_utf8(bytes)?;
+    if out.len() < count as usize {
+        return refuse(Cause::NoRoom, 0);
     }
+    fill(bytes, out);
+    Ok(count)
 }

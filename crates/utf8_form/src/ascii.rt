@@ -26,14 +26,13 @@ pub fn past_eights(text: &[u32], i: usize) -> usize
     requires { i ≤ length text.now }
     ensures { AsciiRun text.now i result }
 {
-    let mut j = i;
-    while 8 <= text.len() - j {
-        if !eight_ascii(text, j) {
-            return j;
+    let eights = (text.len() - i) / 8;
+    for k in 0..eights {
+        if !eight_ascii(text, i + 8 * k) {
+            return i + 8 * k;
         }
-        j += 8;
     }
-    j
+    i + 8 * eights
 }
 
 // ASCII code points as bytes, into out from a place on.
@@ -41,9 +40,7 @@ pub fn narrow(ascii: &[u32], out: &mut [u8], at: usize)
     requires { (at + length ascii.now ≤ length out.old) × AllAscii ascii.now }
     ensures { out.new ≡ put out.old at ascii.now }
 {
-    let mut k = 0;
-    while k < ascii.len() {
-        out[at + k] = as_byte(ascii[k]);
-        k += 1;
+    for (k, c) in ascii.iter().enumerate() {
+        out[at + k] = as_byte(*c);
     }
 }

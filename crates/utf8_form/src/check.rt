@@ -14,10 +14,8 @@ pub fn all_scalar(text: &[u32]) -> bool
     ensures { result ≡ scalars text.now }
 {
     let mut good = true;
-    let mut i = 0;
-    while i < text.len() {
-        good = good & has_form(text[i]);
-        i += 1;
+    for c in text {
+        good = good & has_form(*c);
     }
     good
 }
@@ -26,14 +24,12 @@ pub fn all_scalar(text: &[u32]) -> bool
 pub fn first_ill(text: &[u32]) -> usize
     ensures { result ≡ ill_at text.now }
 {
-    let mut i = 0;
-    while i < text.len() {
-        if !has_form(text[i]) {
+    for (i, c) in text.iter().enumerate() {
+        if !has_form(*c) {
             return i;
         }
-        i += 1;
     }
-    i
+    text.len()
 }
 
 // How many bytes the encoding of a number has: one more from U+0080 on, from U+0800 on and from U+10000 on.
@@ -49,10 +45,8 @@ pub fn needed(text: &[u32]) -> u32
     ensures { result ≡ length (encode_all text.now) }
 {
     let mut n = 0;
-    let mut i = 0;
-    while i < text.len() {
-        n += form_size(text[i]);
-        i += 1;
+    for c in text {
+        n += form_size(*c);
     }
     n
 }

@@ -10,10 +10,8 @@ ghost use Rattle.utf8_meaning.specs.Text.{text_of};
 ghost use Rattle.utf8_meaning.specs.Inner.Answer.{measured, count_utf8};
 ghost use Rattle.utf8_taking.specs.Inner.Taking.{NO_ASCII, LEADS_THREE, LEADS_FOUR, AHEAD, SPACED, Room, Behind, Taken, Took, Beyond, IfTwo, Twos, Put};
 
-use base::refusals::ILL_FORMED;
-use base::{Counted, not_counted, wide};
+use base::{Cause, Refusal, refuse, wide};
 use utf8::ascii::{past_ascii, widen};
-use utf8_meaning::Measured;
 use utf8_table::{four_at, is_four, is_three, is_two, three_at, two_at};
 
 // The first byte that is no ASCII, the first that leads two, the first that leads three and the first that leads four bytes.
@@ -91,9 +89,7 @@ fn twos_ahead(bytes: &[u8], from: usize) -> usize
     ensures { Twos bytes.now from result }
 {
     let mut first = AHEAD;
-    let mut j = AHEAD;
-    while 0 < j {
-        j -= 1;
+    for j in (0..AHEAD).rev() {
         if !two_stands(bytes, from + 2 * j) {
             first = j;
         }
@@ -106,10 +102,8 @@ fn put_twos(bytes: &[u8], from: usize, out: &mut [u32], to: usize)
     requires { Room bytes.now out.old from to × (from + 2 * AHEAD ≤ length bytes.now) }
     ensures { Put bytes.now out.old out.new from to }
 {
-    let mut j = 0;
-    while j < AHEAD {
+    for j in 0..AHEAD {
         out[to + j] = two_at(bytes, from + 2 * j);
-        j += 1;
     }
 }
 
@@ -145,6 +139,7 @@ fn take_threes(bytes: &[u8], from: usize, out: &mut [u32], to: usize) -> Reached
 {
     let mut i = from;
     let mut n = to;
+    // Stays a while: it goes on while a sequence of three stands, and both places that it reached are the answer.
     while i < bytes.len() {
         if bytes[i] / 16 != 0xE {
             return Reached { from: i, to: n };
@@ -187,6 +182,7 @@ fn take_all_spaced(bytes: &[u8], from: usize, out: &mut [u32], to: usize) -> Rea
 {
     let mut i = from;
     let mut n = to;
+    // Stays a while: a turn passes three or four bytes, by what stands there.
     while SPACED <= bytes.len() - i {
         let r = take_spaced(bytes, i, out, n);
         if r.from == i {
@@ -234,32 +230,33 @@ fn take_some(bytes: &[u8], from: usize, out: &mut [u32], to: usize) -> Reached
 }
 
 // How many code points well-formed bytes have, or where the first fault is; the code points before it stand in the first places of out.
-fn take_text(bytes: &[u8], out: &mut [u32]) -> Measured
+fn take_text(bytes: &[u8], out: &mut [u32]) -> Result<usize, usize>
     requires { length bytes.now ≤ length out.old }
     ensures value { result ≡ measured bytes.now }
     ensures out_after { take (length (text_of bytes.now)) out.new ≡ text_of bytes.now }
 {
     let mut from = 0;
     let mut to = 0;
+    // Stays a while: a turn passes a run of sequences of any length, by what stands there.
     while from < bytes.len() {
         let r = take_some(bytes, from, out, to);
         if r.from == from {
-            return Measured::Fault(from);
+            return Err(from);
         }
         from = r.from;
         to = r.to;
     }
-    Measured::Points(to)
+    Ok(to)
 }
 
 // The number of code points, which stand in the first places of out, or the refusal. So few bytes are never too long.
-pub fn take_utf8(bytes: &[u8], out: &mut [u32]) -> Counted
+pub fn take_utf8(bytes: &[u8], out: &mut [u32]) -> Result<u32, Refusal>
     requires { (length bytes.now ≤ length out.old) × (length bytes.now ≤ LONGEST_TEXT) }
     ensures value { result ≡ count_utf8 bytes.now }
     ensures out_after { take (length (text_of bytes.now)) out.new ≡ text_of bytes.now }
 {
     match take_text(bytes, out) {
-        Measured::Fault(place) => not_counted(ILL_FORMED, place as u32),
-        Measured::Points(count) => Counted::Count(count as u32),
+        Err(place) => refuse(Cause::IllFormed, place as u32),
+        Ok(count) => Ok(count as u32),
     }
 }

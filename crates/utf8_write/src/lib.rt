@@ -9,8 +9,7 @@ ghost use Rattle.utf8_write_meaning.specs.Answer.{answer, out_after};
 ghost use Rattle.utf8_write.specs.Inner.Part.{Part};
 
 use base::limits::LONGEST_TEXT;
-use base::refusals::{NO_ROOM, NOT_SCALAR, TOO_LONG};
-use base::{Counted, not_counted};
+use base::{Cause, Refusal, refuse};
 use utf8_form::ascii::{narrow, past_eights};
 use utf8_form::check::{all_scalar, first_ill, needed};
 use utf8_form::sequence::{as_byte, four_into, three_into, two_into};
@@ -25,25 +24,19 @@ fn each_into(text: &[u32], out: &mut [u8], at: usize) -> usize
     ensures value { result ≡ at + length (encode_all text.now) }
     ensures out_after { out.new ≡ put out.old at (encode_all text.now) }
 {
-    let mut from = 0;
     let mut to = at;
-    while from < text.len() {
-        let c = text[from];
+    for &c in text {
         if c < 0x80 {
             out[to] = as_byte(c);
-            from += 1;
             to += 1;
         } else if c < 0x800 {
             two_into(out, to, c);
-            from += 1;
             to += 2;
         } else if c < 0x10000 {
             three_into(out, to, c);
-            from += 1;
             to += 3;
         } else {
             four_into(out, to, c);
-            from += 1;
             to += 4;
         }
     }
@@ -68,6 +61,7 @@ fn encode_into(text: &[u32], out: &mut [u8])
 {
     let mut from = 0;
     let mut to = 0;
+    // Stays a while: a turn passes eights of ASCII, as many as stand there, and then up to SINGLES code points more.
     while from < text.len() {
         let next = past_eights(text, from);
         narrow(&text[from..next], out, to);
@@ -79,20 +73,20 @@ fn encode_into(text: &[u32], out: &mut [u8])
 }
 
 // A text as UTF-8, written into the first places of out; the rest of out stays, and all of it in a refusal.
-pub fn write_utf8(text: &[u32], out: &mut [u8]) -> Counted
+pub fn write_utf8(text: &[u32], out: &mut [u8]) -> Result<u32, Refusal>
     ensures value { result ≡ answer text.now (length out.old) }
     ensures out_after { out.new ≡ out_after text.now out.old }
 {
     if LONGEST_TEXT < text.len() {
-        return not_counted(TOO_LONG, 0);
+        return refuse(Cause::TooLong, 0);
     }
     if !all_scalar(text) {
-        return not_counted(NOT_SCALAR, first_ill(text) as u32);
+        return refuse(Cause::NotScalar, first_ill(text) as u32);
     }
     let count = needed(text);
     if out.len() < count as usize {
-        return not_counted(NO_ROOM, 0);
+        return refuse(Cause::NoRoom, 0);
     }
     encode_into(text, out);
-    Counted::Count(count)
+    Ok(count)
 }

@@ -5,4 +5,4 @@ use Rattle.base.proofs.refuse.Goals as goal
 
 pub returns : goal.returns
 unfolding refused_at
-returns c = refl
+returns g c = refl

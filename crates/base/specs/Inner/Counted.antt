@@ -1,11 +1,9 @@
 -- Words of inner contracts, beside Counted: `cause_of`. No public promise rests on them.
 -- Assumes nothing.
-use Rattle.base.specs.declared.Cause.{Cause}
-use Rattle.base.specs.declared.Cause.TheVariants.{Allowed, Refused}
-use Rattle.base.specs.declared.Counted.{Counted}
-use Rattle.base.specs.declared.Counted.TheVariants.{Count, Refused as NotCounted}
+use Rattle.std.specs.Prelude.{ℕ, Result, Ok, Err, ⊤}
+use Rattle.base.specs.declared.Refusal.{Refusal}
 
 -- the cause that an answer tells
-unfoldable pub cause_of : Counted → Cause
-cause_of (Count n) = Allowed
-cause_of (NotCounted r) = Refused r
+unfoldable pub cause_of : Result ℕ Refusal → Result ⊤ Refusal
+cause_of (Ok n) = Ok tt
+cause_of (Err r) = Err r

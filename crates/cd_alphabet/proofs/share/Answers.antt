@@ -7,16 +7,6 @@ use Rattle.cd_alphabet.proofs.share.Goals as goal
 pub loop-i-init : goal.loop-i-init
 loop-i-init c = counting_start _ _
 
-pub overflow_add-i : goal.overflow_add-i
-overflow_add-i c = omega (arith, c.loop-i-test.true)
-
-pub slice_bounds-holds-start : goal.slice_bounds-holds-start
-slice_bounds-holds-start c = omega arith
-
-pub in_layer-requires : goal.in_layer-requires
-in_layer-requires c =
-    c.requires.0
-
 pub overflow_add-num : goal.overflow_add-num
 overflow_add-num c =
     omega (arith, c.loop-i.invariant.less, c.one-num.ensures.small, c.loop-i-test.true, c.requires.1)

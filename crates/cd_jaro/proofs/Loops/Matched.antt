@@ -48,15 +48,8 @@ module _ (layer language : List ℕ) where
       }
 
   module _ {taken : List Bool} {letters : List ℕ} {m i : ℕ} (g : Matched taken letters m i) where
-    -- a flag for each letter, so m is at most the language's length
-    pub matched_few : m ≤ length language
-    matched_few = omega (arith, g.count, (even layer language i).pairs, picked_le language (matching layer language i).taken)
-
-    pub matched_flags : length language ≡ length (take (length language) taken)
+    matched_flags : length language ≡ length (take (length language) taken)
     matched_flags = sym (ap length g.flags ∙ (even layer language i).flags)
-
-    pub matched_letters : m ≡ length (take m letters)
-    matched_letters = g.count ∙ sym (ap length g.firsts)
 
     pub matched_paired : length language ≤ LANGUAGE_LETTERS → Paired language (take (length language) taken) (take m letters)
     matched_paired h = record { few = h; flags = matched_flags; pairs = rw (g.flags, g.firsts) (even layer language i).pairs }

@@ -21,9 +21,6 @@ module _ (language : List ℕ) (taken : List Bool) (letters : List ℕ) where
     pub sum : out + differing (drop k letters) (picked (drop j language) (drop j taken)) ≡ differing letters (picked language taken)
     pub rest : k + length (picked (drop j language) (drop j taken)) ≡ length letters
 
-  pub counting_start : length (picked language taken) ≡ length letters → Counting 0 0 0
-  counting_start e = record { below = omega arith; few = omega arith; some = omega arith; sum = omega arith; rest = omega arith }
-
   module _ {out k j : ℕ} (g : Counting out k j) (h : j < length language) (l : length language ≡ length taken) where
     skip : get_or taken j false ≡ false → picked (drop j language) (drop j taken) ≡ picked (drop (j + 1) language) (drop (j + 1) taken)
     unfolding picked

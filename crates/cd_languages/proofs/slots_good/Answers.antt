@@ -13,15 +13,6 @@ use Rattle.cd_languages.proofs.slots_good.Goals as goal
 pub loop-k-init : goal.loop-k-init
 loop-k-init c = let asked = c.requires in (omega (arith, asked.1), asked.2, asked.3)
 
-pub slot_at-requires : goal.slot_at-requires
-slot_at-requires c = (c.requires.0, c.loop-k-test.true)
-
-pub overflow_add-k : goal.overflow_add-k
-overflow_add-k c = omega (arith, c.loop-k-test.true)
-
-pub loop-k-smaller : goal.loop-k-smaller
-loop-k-smaller c = omega (arith, c.loop-k-test.true)
-
 pub loop-k-preserved : goal.loop-k-preserved
 loop-k-preserved c =
     let inv = c.loop-k.invariant in (

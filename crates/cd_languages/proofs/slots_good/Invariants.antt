@@ -1,4 +1,4 @@
-use Prim.Native.Nat.{◌-◌, ◌≤◌}
+use Prim.Native.Nat.{◌≤◌}
 use mathlib.Core.Path.{◌≡◌}
 use Rattle.base.specs.Limits.{LANGUAGE_LETTERS}
 use Rattle.base.specs.First.{each}
@@ -7,6 +7,3 @@ use Rattle.cd_languages.proofs.slots_good.Given as goal
 
 abbrev pub invariant-loop-k : goal.invariant-loop-k
 invariant-loop-k l = (letter_count l.t l.i ≤ l.k) × (l.k ≤ LANGUAGE_LETTERS) × (l.good ≡ each (slot_good l.t l.i) l.k)
-
-abbrev pub decreases-loop-k : goal.decreases-loop-k
-decreases-loop-k l = LANGUAGE_LETTERS - l.k

@@ -13,10 +13,6 @@ pub loop-k-init : goal.loop-k-init
 unfolding each
 loop-k-init c = (omega arith, refl)
 
-pub slot_at-requires : goal.slot_at-requires
-slot_at-requires c =
-    (c.requires.0, omega (arith, c.requires.2, c.loop-k-test.true))
-
 pub loop-k-preserved : goal.loop-k-preserved
 loop-k-preserved c = (
   omega (arith, c.loop-k-test.true),

@@ -37,6 +37,9 @@ module _ (test : ℕ → Bool) (keys : List ℕ) where
     pub look_end : length keys ≤ j → oldest test keys ≡ j
     look_end h = sym g.rest ∙ first_end (λ k. test (get_or keys k 0)) (length keys) j (omega (arith, g.below))
 
+    pub look_all : length keys ≤ j → length keys ≡ oldest test keys
+    look_all h = omega (arith, look_end h, g.below)
+
 -- what the pair table's bit says of a key
 pub accepts_not : (pairs : List ℕ) (a b : ℕ) (s : Bool) → s ≡ suspicious pairs a b → s ≡ true → accepts pairs b a ≡ false
 unfolding accepts

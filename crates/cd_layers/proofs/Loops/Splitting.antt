@@ -12,7 +12,7 @@ use lib.Seq.{set-get_or, take-suc-set, drop-cons, get_or-take, length-take-le, t
 use borrow.Author.Tests.{ne_eqb}
 use Rattle.base.specs.Limits.{LAST_RANGE, RANGES}
 use Rattle.base.specs.Put.{put}
-use Rattle.base.proofs.Laws.Put.{put_nothing, put_length, put_more, put_after}
+use Rattle.base.proofs.Laws.Put.{put_nothing, put_more, put_after}
 use Rattle.cd_layers.specs.Inner.Numbers.{layer_for, keys_with, numbers_from, keys_from, numbers, keys_of, Below}
 use Rattle.cd_layers.proofs.Laws.Numbers.{layer_within, keys_old, keys_new, numbers_length, key_fresh, keys_start, keys_marks}
 use Rattle.cd_layers.specs.Inner.Split.{Split}
@@ -54,10 +54,6 @@ module _ (pairs : List ℕ) (n : ℕ) (w : List ℕ) where
     done_length : length (take i (numbers pairs (take n w))) ≡ i
     done_length = length-take-le i (numbers pairs (take n w)) (omega (arith, all, g.below))
 
-    pub going_size : length v ≡ length w
-    going_size =
-        ap length g.done ∙ put_length w 0 (take i (numbers pairs (take n w))) (omega (arith, done_length, g.below, g.room))
-
     pub going_few : c ≤ LAST_RANGE
     going_few = omega (arith, marks_few g.marks, g.count)
 
@@ -79,9 +75,6 @@ module _ (pairs : List ℕ) (n : ℕ) (w : List ℕ) where
 
     wide_enough : i < length (numbers pairs (take n w))
     wide_enough = omega (arith, all g)
-
-    pub going_inside : i < length v
-    going_inside = omega (arith, going_size g, g.room)
 
     -- the range of the slot i still stands there
     pub going_here : get_or v i 0 ≡ get_or w i 0

@@ -5,17 +5,13 @@ use Rattle.cd_layers.proofs.layer_for.Goals as goal
 pub loop-j-init : goal.loop-j-init
 loop-j-init c = look_start _ _
 
-pub is_suspicious-requires : goal.is_suspicious-requires
-is_suspicious-requires c =
-    (c.requires.0, c.requires.2 c.loop-j.j, c.requires.1)
-
 pub loop-j-preserved : goal.loop-j-preserved
 loop-j-preserved c =
-    look_on _ _ c.loop-j.invariant c.loop-j-test.true (accepts_not _ _ _ _ c.is_suspicious.ensures c.if-is_suspicious.true)
+    look_on _ _ c.loop-j.invariant c.loop-j-test.true (accepts_not _ _ _ _ c.is_suspicious.ensures c.if-not-is_suspicious.false)
 
-pub returns-else-is_suspicious : goal.returns-else-is_suspicious
-returns-else-is_suspicious c =
-    layer_joins _ _ _ c.loop-j.invariant c.loop-j-test.true (accepts_so _ _ _ _ c.is_suspicious.ensures c.if-is_suspicious.false)
+pub returns-then-not-is_suspicious : goal.returns-then-not-is_suspicious
+returns-then-not-is_suspicious c =
+    layer_joins _ _ _ c.loop-j.invariant c.loop-j-test.true (accepts_so _ _ _ _ c.is_suspicious.ensures c.if-not-is_suspicious.true)
 
 pub returns : goal.returns
 returns c = layer_own _ _ _ _ c.loop-j.invariant c.loop-j-test.false c.own.ensures

@@ -1,5 +1,6 @@
--- A ranking by value has the matches that it was made of (`matches_are`), and a refusal none (`matches_none`).
+-- A ranking by value has the matches that it was made of (`matches_are`), and a refusal none (`matches_none`), which its answer tells (`refused_count`).
 -- Assumes nothing.
+use Rattle.std.specs.Prelude.{Ok, Err}
 use Prim.Native.Nat.{ℕ, zero, suc, ◌+◌, ◌-◌, ◌≤◌, ◌<◌}
 use mathlib.Core.Path.{◌≡◌, refl, ◌∙◌}
 use mathlib.Core.List.{List, [], map}
@@ -7,10 +8,11 @@ use native.Mathlib.Omega.{arith}
 use lib.ListN.{length, get_or, take, drop, replicate, length-map, get_or-append, get_or-map}
 use lib.Seq.{drop-cons, take-length}
 use lib.Ieee.{nan, of_bits, binary32}
+use Rattle.base.specs.declared.Refusal.{Refusal}
 use Rattle.base.specs.Limits.{MOST_LANGUAGES}
 use Rattle.cd_ranking.specs.declared.CoherenceMatch.{CoherenceMatch}
-use Rattle.cd_ranking.specs.Ranking.{language, score, padded, by_value, refused_ranking}
-use Rattle.cd_list.specs.Inner.Lent.{entry_of, entries_from, matches_in}
+use Rattle.cd_ranking.specs.Ranking.{language, score, padded, by_value}
+use Rattle.cd_list.specs.Inner.Lent.{entry_of, entries_from, matches_in, answer_of}
 
 -- what stands past the end of a list
 abbrev past : CoherenceMatch
@@ -37,10 +39,14 @@ module _ (ms : List CoherenceMatch) where
   entries_are (suc n) i h =
       rw (entry_is i (omega arith), entries_are n (suc i) (omega arith), drop-cons ms i past (omega arith))
 
-  pub matches_are : matches_in (by_value ms) ≡ ms
-  unfolding by_value
+  pub matches_are : matches_in (Ok (by_value ms)) ≡ ms
+  unfolding by_value matches_in
   matches_are = entries_are (length ms) 0 (omega arith) ∙ take-length ms
 
-pub matches_none : (number place : ℕ) → matches_in (refused_ranking number place) ≡ []
-unfolding refused_ranking entries_from
-matches_none number place = refl
+pub matches_none : (r : Refusal) → matches_in (Err r) ≡ []
+unfolding matches_in
+matches_none r = refl
+
+pub refused_count : (r : Refusal) → (answer_of (Err r)).count ≡ 0
+unfolding answer_of
+refused_count r = refl

@@ -1,13 +1,13 @@
 -- A lent list while it is filled: the first i matches of a ranking, and the rest as it was (`filled`); no match put (`filled_none`), one more
--- (`filled_more`), and as long as the list was (`filled_length`).
+-- (`filled_more`).
 -- Assumes nothing.
-use Prim.Native.Nat.{ℕ, zero, suc, ◌+◌, ◌<◌, ◌≤◌}
+use Prim.Native.Nat.{ℕ, zero, suc, ◌+◌, ◌<◌}
 use mathlib.Core.Path.{◌≡◌, refl, sym, ap, ◌∙◌}
 use mathlib.Core.List.{List, [], ◌∷◌, ◌++◌}
 use native.Mathlib.Nat.{zero-add, add-zero}
 use native.Mathlib.Numerals.{add-one}
 use native.Mathlib.Omega.{arith}
-use lib.ListN.{length, drop, set, get_or, length-append, length-drop}
+use lib.ListN.{length, drop, set, get_or}
 use lib.Seq.{drop-cons, set_at, append_snoc}
 use Rattle.base.specs.Put.{put}
 use Rattle.base.proofs.Laws.Put.{put_first, put_nothing}
@@ -45,6 +45,3 @@ module _ (r : Ranking) where
         let m : entries_from r 0 (suc i) ≡ entries_from r 0 i ++ (x ∷ []) = entries_more 0 i ∙ rw (zero-add i) in
         rw (filled_is i, filled_is (i + 1), drop-cons out i x h, set_at (entries_from r 0 i) (get_or out i x) (drop (suc i) out) x i (entries_length 0 i), add-one i, m)
         (sym (append_snoc (entries_from r 0 i) x (drop (suc i) out)))
-
-    pub filled_length : (i : ℕ) → i ≤ length out → length (filled i) ≡ length out
-    filled_length i h = omega (arith, ap length (filled_is i), length-append (entries_from r 0 i) (drop i out), entries_length 0 i, length-drop i out)

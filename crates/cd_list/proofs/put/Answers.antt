@@ -1,16 +1,14 @@
--- No match is put at first, and each turn puts one more. Assumes nothing.
-use native.Mathlib.Omega.{arith}
-use mathlib.Core.Path.{sym}
-use Prim.Native.Nat.{◌+◌, ◌≤◌, ◌<◌, zero-le}
-use lib.ListN.{length}
-use Rattle.cd_list.proofs.Loops.Filled.{filled_none, filled_more}
+-- A ranking's matches are put, of a refusal nothing. Assumes nothing.
+use mathlib.Core.Path.{sym, ap, ◌∙◌}
+use Rattle.base.proofs.Laws.Put.{put_nothing}
+use Rattle.cd_list.specs.Inner.Lent.{matches_in, answer_of}
 use Rattle.cd_list.proofs.put.Goals as goal
+use Rattle.cd_list.proofs.put.Goals.{in-Ok, in_default}
 
-pub loop-i-init : goal.loop-i-init
-loop-i-init c = (zero-le, sym (filled_none c.args.r c.args.out.now))
-
-pub loop-i-preserved : goal.loop-i-preserved
-loop-i-preserved c =
-    let le : c.loop-i.i + 1 ≤ c.args.r.count = omega arith in
-    let inside : c.loop-i.i < length c.args.out.now = omega (arith, c.requires.1) in
-    (le, rw (c.entry_at.ensures, c.loop-i.invariant.1) (filled_more c.args.r c.args.out.now c.loop-i.i inside))
+pub returns : goal.returns
+unfolding matches_in
+returns c =
+    elim c.match-r.branch [
+      | in-Ok w ↦ (c.answer_of.ensures ∙ ap answer_of (w.r-is ∙ sym w.in-Ok.is), w.out-is ∙ w.put_matches.ensures ∙ rw w.in-Ok.is)
+      | in_default w ↦ (c.answer_of.ensures ∙ ap answer_of w.r-is, w.out-is ∙ rw w.in_default.is (sym (put_nothing _ 0)))
+    ]

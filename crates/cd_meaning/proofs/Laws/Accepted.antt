@@ -1,8 +1,9 @@
 -- coherence_ratio refuses exactly for 01's causes, the threshold among them: a call with none of them is answered by the ranking of its matches
--- (`faultless_ranked`), and a call that is answered so, its number 0, has none of them (`ranked_faultless`). The same of the list of causes
+-- (`faultless_ranked`), and a call that is answered by a ranking has none of them (`ranked_faultless`). The same of the list of causes
 -- (`faultless_free`, `free_faultless`) and of the call without a threshold (`faultless_default`, `default_faultless`). In which order the causes
 -- are given is the definition's own order.
 -- Assumes nothing.
+use Rattle.std.specs.Prelude.{Result, Ok, Err, ⊤}
 use Prim.Native.Nat.{ℕ, ◌*◌, ◌≤◌, ◌<◌}
 use mathlib.Core.Path.{◌≡◌, refl, sym, ap, ◌∙◌}
 use mathlib.Core.Bool.{Bool, true, false, not, ◌||◌}
@@ -12,15 +13,13 @@ use lib.Dec.{ltb}
 use lib.Ieee.{Float}
 use lib.ListN.{length}
 use borrow.Author.Tests.{ltb-false, le-ltb, not-false}
-use Rattle.base.specs.declared.Cause.{Cause}
-use Rattle.base.specs.declared.Cause.TheVariants.{Allowed, Refused}
 use Rattle.base.specs.declared.Refusal.{Refusal}
-use Rattle.base.specs.Causes.{refused_at, given, first_of}
+use Rattle.base.specs.Causes.{first_of}
 use Rattle.base.specs.Limits.{LONGEST_RANKED, WORK_PER_POINT}
-use Rattle.base.specs.Refusals.{ACCEPTED, TOO_LONG, NO_ROOM, NOT_FINITE, UNCLASSED}
-use Rattle.base.proofs.Laws.Causes.{never, first_free, free_first, given_free, free_given}
+use Rattle.base.specs.declared.refusals.Cause.TheVariants.{TooLong, NoRoom, NotFinite, Unclassed}
+use Rattle.base.proofs.Laws.Causes.{first_free, free_first, given_free, free_given}
 use Rattle.base.proofs.Laws.First.{first_none, first_before}
-use Rattle.classes.specs.Check.{bad_length, bad_number, bad_record, bad_classes}
+use Rattle.classes.specs.Check.{bad_classes}
 use Rattle.classes.specs.Inner.Tables.{Tables}
 use Rattle.classes.specs.Pairs.{bad_pairs}
 use Rattle.classes.proofs.Laws.Tables.{free_tables, tables_free}
@@ -32,7 +31,8 @@ use Rattle.cd_languages.specs.Languages.{languages}
 use Rattle.cd_languages.proofs.Laws.Check.{free_good, good_free}
 use Rattle.cd_languages.proofs.Laws.Included.{free_permitted, permitted_free}
 use Rattle.cd_ranking.specs.declared.CoherenceMatch.{CoherenceMatch}
-use Rattle.cd_ranking.specs.Ranking.{by_value, refused_ranking}
+use Rattle.cd_ranking.specs.declared.Ranking.{Ranking}
+use Rattle.cd_ranking.specs.Ranking.{by_value}
 use Rattle.cd_taken_meaning.specs.Unclassed.{unclassed_at, first_unclassed}
 use Rattle.ratio.specs.Finite.{is_finite, not_finite}
 use Rattle.cd_meaning.specs.Causes.{too_long, no_room, no_class, of_text, of_languages, of_tables, causes}
@@ -51,86 +51,38 @@ pub record Faultless (text : List ℕ) (threshold : Float) (classes pairs t incl
   pub words : WORK_PER_POINT * length text ≤ work
   pub classed : (i : ℕ) → i < length text → unclassed_at classes text i ≡ false
 
--- ---- a cause has a number that is not 0, so that a number of 0 tells that there is none
-abbrev Numbered : Cause → Type 0
-Numbered c = (r : Refusal) → c ≡ Refused r → 0 < r.number
-
-given_numbered : (b : Bool) (number place : ℕ) → 0 < number → Numbered (given b number place)
-unfolding given refused_at
-given_numbered true number place h r e = let z : number ≡ r.number = cc in omega arith
-given_numbered false number place h r e = never r (sym e)
-
-none_numbered : Numbered (first_of [])
-unfolding first_of
-none_numbered r e = never r (sym e)
-
-first_numbered : (c : Cause) (cs : List Cause) → Numbered c → Numbered (first_of cs) → Numbered (first_of (c ∷ cs))
-unfolding first_of
-first_numbered Allowed cs n m r e = m r e
-first_numbered (Refused q) cs n m r e = n r e
-
-classes_numbered : (classes : List ℕ) → Numbered (bad_classes classes)
-unfolding bad_classes bad_length bad_number bad_record
-classes_numbered classes =
-    first_numbered _ _ (given_numbered _ _ _ (omega arith))
-    (first_numbered _ _ (given_numbered _ _ _ (omega arith)) (first_numbered _ _ (given_numbered _ _ _ (omega arith)) none_numbered))
-
-languages_numbered : (t : List ℕ) → Numbered (bad_languages t)
-unfolding bad_languages
-languages_numbered t =
-    first_numbered _ _ (given_numbered _ _ _ (omega arith))
-    (first_numbered _ _ (given_numbered _ _ _ (omega arith)) (first_numbered _ _ (given_numbered _ _ _ (omega arith)) none_numbered))
-
-included_numbered : (included t : List ℕ) → Numbered (bad_included included t)
-unfolding bad_included
-included_numbered included t =
-    first_numbered _ _ (given_numbered _ _ _ (omega arith)) (first_numbered _ _ (given_numbered _ _ _ (omega arith)) none_numbered)
-
-module _ (text : List ℕ) (threshold : Float) (classes pairs t included : List ℕ) (work room : ℕ) where
-  numbered : Numbered (causes text threshold classes pairs t included work room)
-  unfolding causes too_long not_finite bad_pairs no_room no_class
-  numbered =
-      first_numbered _ _ (given_numbered _ _ _ (omega arith))
-      (first_numbered _ _ (given_numbered _ _ _ (omega arith))
-      (first_numbered _ _ (classes_numbered classes)
-      (first_numbered _ _ (given_numbered _ _ _ (omega arith))
-      (first_numbered _ _ (languages_numbered t)
-      (first_numbered _ _ (included_numbered included t)
-      (first_numbered _ _ (given_numbered _ _ _ (omega arith))
-      (first_numbered _ _ (given_numbered _ _ _ (omega arith)) none_numbered)))))))
-
 -- ---- 6
 module _ (classes text : List ℕ) where
-  classed_free : ((i : ℕ) → i < length text → unclassed_at classes text i ≡ false) → no_class classes text ≡ Allowed
+  classed_free : ((i : ℕ) → i < length text → unclassed_at classes text i ≡ false) → no_class classes text ≡ Ok tt
   unfolding no_class first_unclassed
   classed_free f =
-      free_given _ UNCLASSED _
+      free_given _ Unclassed _
       (rw (first_none (unclassed_at classes text) (length text) f) (le-ltb (length text) (length text) (omega arith)))
 
-  free_classed : no_class classes text ≡ Allowed → (i : ℕ) → i < length text → unclassed_at classes text i ≡ false
+  free_classed : no_class classes text ≡ Ok tt → (i : ℕ) → i < length text → unclassed_at classes text i ≡ false
   unfolding no_class first_unclassed
   free_classed e i h =
-      let l = ltb-false (first_unclassed classes text) (length text) (given_free _ UNCLASSED _ e) in
+      let l = ltb-false (first_unclassed classes text) (length text) (given_free _ Unclassed _ e) in
       first_before (unclassed_at classes text) (length text) i (omega arith)
 
 module _ (text : List ℕ) (threshold : Float) (classes pairs t included : List ℕ) (work room : ℕ) where
-  pub faultless_free : Faultless text threshold classes pairs t included work room → causes text threshold classes pairs t included work room ≡ Allowed
+  pub faultless_free : Faultless text threshold classes pairs t included work room → causes text threshold classes pairs t included work room ≡ Ok tt
   unfolding causes too_long not_finite no_room first_of
   faultless_free f =
       let tables = tables_free classes pairs f.tables in
       let room_is : ltb room (languages t) || ltb work (WORK_PER_POINT * length text) ≡ false
       = rw (le-ltb room (languages t) f.entries, le-ltb work (WORK_PER_POINT * length text) f.words) in
       free_first _ (not_finite threshold ∷ of_tables text classes pairs t included work room)
-      (free_given _ TOO_LONG 0 (le-ltb LONGEST_RANKED (length text) f.short))
-      (free_first _ (of_tables text classes pairs t included work room) (free_given _ NOT_FINITE 0 (ap not f.finite))
+      (free_given _ TooLong 0 (le-ltb LONGEST_RANKED (length text) f.short))
+      (free_first _ (of_tables text classes pairs t included work room) (free_given _ NotFinite 0 (ap not f.finite))
       (free_first _ (bad_pairs pairs ∷ of_languages text classes t included work room) tables.0
       (free_first _ (of_languages text classes t included work room) tables.1
       (free_first _ (bad_included included t ∷ of_text text classes t work room) (good_free t f.good)
       (free_first _ (of_text text classes t work room) (permitted_free included t f.permitted)
-      (free_first _ (no_class classes text ∷ []) (free_given _ NO_ROOM 0 room_is)
+      (free_first _ (no_class classes text ∷ []) (free_given _ NoRoom 0 room_is)
       (free_first _ [] (classed_free classes text f.classed) refl)))))))
 
-  pub free_faultless : causes text threshold classes pairs t included work room ≡ Allowed → Faultless text threshold classes pairs t included work room
+  pub free_faultless : causes text threshold classes pairs t included work room ≡ Ok tt → Faultless text threshold classes pairs t included work room
   unfolding causes too_long not_finite no_room
   free_faultless e =
       let a = first_free (too_long text) _ e in
@@ -141,10 +93,10 @@ module _ (text : List ℕ) (threshold : Float) (classes pairs t included : List 
       let g = first_free (bad_included included t) _ f.1 in
       let h = first_free (no_room text t work room) _ g.1 in
       let i = first_free (no_class classes text) _ h.1 in
-      let r = or_free _ _ (given_free (ltb room (languages t) || ltb work (WORK_PER_POINT * length text)) NO_ROOM 0 h.0) in
+      let r = or_free _ _ (given_free (ltb room (languages t) || ltb work (WORK_PER_POINT * length text)) NoRoom 0 h.0) in
       record {
-        short = ltb-false LONGEST_RANKED (length text) (given_free _ TOO_LONG 0 a.0);
-        finite = not-false (is_finite threshold) (given_free _ NOT_FINITE 0 b.0);
+        short = ltb-false LONGEST_RANKED (length text) (given_free _ TooLong 0 a.0);
+        finite = not-false (is_finite threshold) (given_free _ NotFinite 0 b.0);
         tables = free_tables classes pairs c.0 d.0;
         good = free_good t f.0;
         permitted = free_permitted included t g.0;
@@ -154,25 +106,23 @@ module _ (text : List ℕ) (threshold : Float) (classes pairs t included : List 
       }
 
 -- ---- the answer
-ranked_allowed : (c : Cause) (l : List CoherenceMatch) → Numbered c → (answered c l).number ≡ ACCEPTED → c ≡ Allowed
-unfolding answered refused_ranking
-ranked_allowed Allowed l n e = refl
-ranked_allowed (Refused r) l n e = let h = n r refl in absurd (omega arith)
+ranked_allowed : (c : Result ⊤ Refusal) (l : List CoherenceMatch) (r : Ranking) → answered c l ≡ Ok r → c ≡ Ok tt
+unfolding answered
+ranked_allowed (Ok u) l r e = refl
+ranked_allowed (Err q) l r e = let z : ◌≡◌ {A = ℕ} 0 1 = cc in absurd (omega arith)
 
 module _ (text : List ℕ) (threshold : Float) (small : ℕ) (classes pairs t included : List ℕ) (work room : ℕ) where
   -- no cause, no refusal
   pub faultless_ranked : Faultless text threshold classes pairs t included work room
-      → coherence_ratio text threshold small classes pairs t included work room ≡ by_value (matches_of text threshold small classes pairs t included)
+      → coherence_ratio text threshold small classes pairs t included work room ≡ Ok (by_value (matches_of text threshold small classes pairs t included))
   unfolding coherence_ratio answered
   faultless_ranked f = rw (faultless_free text threshold classes pairs t included work room f)
 
   -- no refusal, no cause
-  pub ranked_faultless : (coherence_ratio text threshold small classes pairs t included work room).number ≡ ACCEPTED
+  pub ranked_faultless : (r : Ranking) → coherence_ratio text threshold small classes pairs t included work room ≡ Ok r
       → Faultless text threshold classes pairs t included work room
   unfolding coherence_ratio
-  ranked_faultless e =
-      free_faultless text threshold classes pairs t included work room
-      (ranked_allowed _ _ (numbered text threshold classes pairs t included work room) e)
+  ranked_faultless r e = free_faultless text threshold classes pairs t included work room (ranked_allowed _ _ r e)
 
 -- the call without a threshold: 0.1 is finite, and so is none of its causes
 module _ (text : List ℕ) (small : ℕ) (classes pairs t included : List ℕ) (work room : ℕ) where
@@ -180,11 +130,11 @@ module _ (text : List ℕ) (small : ℕ) (classes pairs t included : List ℕ) (
   FaultlessDefault = Faultless text DEFAULT_THRESHOLD classes pairs t included work room
 
   pub faultless_default : FaultlessDefault
-      → coherence_ratio_default text small classes pairs t included work room ≡ by_value (matches_of text DEFAULT_THRESHOLD small classes pairs t included)
+      → coherence_ratio_default text small classes pairs t included work room ≡ Ok (by_value (matches_of text DEFAULT_THRESHOLD small classes pairs t included))
   faultless_default f =
       sym (default_same text small classes pairs t included work room) ∙ faultless_ranked text DEFAULT_THRESHOLD small classes pairs t included work room f
 
-  pub default_faultless : (coherence_ratio_default text small classes pairs t included work room).number ≡ ACCEPTED → FaultlessDefault
-  default_faultless e =
-      ranked_faultless text DEFAULT_THRESHOLD small classes pairs t included work room
+  pub default_faultless : (r : Ranking) → coherence_ratio_default text small classes pairs t included work room ≡ Ok r → FaultlessDefault
+  default_faultless r e =
+      ranked_faultless text DEFAULT_THRESHOLD small classes pairs t included work room r
       (rw (default_same text small classes pairs t included work room) e)

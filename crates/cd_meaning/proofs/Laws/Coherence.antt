@@ -1,6 +1,7 @@
 -- The work area on its way through a call that is not refused: filled (`filled`), split (v), read (u) and cleared; what each step needs, and that
 -- the end is 01's ranking (`ranked_is`) and a cleared area (`cleared_is`). And what each way through the call shows.
 -- Assumes nothing.
+use Rattle.std.specs.Prelude.{Result, Ok, Err, ⊤}
 use Prim.Native.Nat.{ℕ, suc, ◌+◌, ◌*◌, ◌≤◌}
 use mathlib.Core.Path.{◌≡◌, refl, sym, ap, ◌∙◌}
 use mathlib.Core.Bool.{true}
@@ -8,8 +9,6 @@ use mathlib.Core.List.{List, [], ◌∷◌}
 use native.Mathlib.Omega.{arith}
 use lib.Ieee.{Float, of_bits}
 use lib.ListN.{length, take, drop, replicate, length-replicate}
-use Rattle.base.specs.declared.Cause.{Cause}
-use Rattle.base.specs.declared.Cause.TheVariants.{Allowed, Refused}
 use Rattle.base.specs.declared.Refusal.{Refusal}
 use Rattle.base.specs.Limits.{LAST_RANGE, PAIR_BYTES, WORK_PER_POINT}
 use Rattle.base.specs.Inner.Limits.{MOST_LETTERS}
@@ -37,7 +36,7 @@ use Rattle.cd_best.specs.Inner.Standing.{best_at, start}
 use Rattle.cd_best.specs.Inner.Known.{Known}
 use Rattle.cd_best.proofs.Laws.Tallies.{Tallies, start_tallies}
 use Rattle.cd_ranking.specs.declared.Ranking.{Ranking}
-use Rattle.cd_ranking.specs.Ranking.{in_rank, by_value, refused_ranking}
+use Rattle.cd_ranking.specs.Ranking.{in_rank, by_value}
 use Rattle.cd_ranking.specs.Inner.Listed.{kept_records}
 use Rattle.cd_ranking.proofs.Laws.Tallied.{tallied_ranking}
 use Rattle.cd_meaning.specs.Causes.{causes, causes_default}
@@ -158,20 +157,20 @@ module _ (text classes pairs t included w : List ℕ) (free : Free text classes 
 -- ---- what each way through the call shows
 module _ (text : List ℕ) (threshold : Float) (small : ℕ) (classes pairs t included : List ℕ) (work room : ℕ) (w : List ℕ) where
   -- the answer is a, and the work area is left as new
-  abbrev Ends : Ranking → List ℕ → Type 0
+  abbrev Ends : Result Ranking Refusal → List ℕ → Type 0
   Ends a new =
       (a ≡ coherence_ratio text threshold small classes pairs t included work room)
       × (new ≡ work_after (causes text threshold classes pairs t included work room) text w)
 
-  module _ (c : Cause) (first : c ≡ causes text threshold classes pairs t included work room) where
-    pub refused_ends : (r : Refusal) → c ≡ Refused r → (a : Ranking) → a ≡ refused_ranking r.number r.place → Ends a w
+  module _ (c : Result ⊤ Refusal) (first : c ≡ causes text threshold classes pairs t included work room) where
+    pub refused_ends : (r : Refusal) → c ≡ Err r → (a : Result Ranking Refusal) → a ≡ Err r → Ends a w
     unfolding coherence_ratio answered work_after
     refused_ends r e a d = rw (sym first ∙ e) (d, refl)
 
-    pub allowed_ends : c ≡ Allowed → (a : Ranking) (new : List ℕ)
-        → (a ≡ by_value (matches_of text threshold small classes pairs t included)) × (new ≡ cleared text w) → Ends a new
+    pub allowed_ends : c ≡ Ok tt → (a : Ranking) (new : List ℕ)
+        → (a ≡ by_value (matches_of text threshold small classes pairs t included)) × (new ≡ cleared text w) → Ends (Ok a) new
     unfolding coherence_ratio answered work_after
-    allowed_ends e a new d = rw (sym first ∙ e) d
+    allowed_ends e a new d = rw (sym first ∙ e) (ap Ok d.0, d.1)
 
 -- 0.1 is finite, so that the cause between the two is never given
 pub default_finite : is_finite DEFAULT_THRESHOLD ≡ true
@@ -182,16 +181,16 @@ pub default_same : (text : List ℕ) (small : ℕ) (classes pairs t included : L
     → coherence_ratio text DEFAULT_THRESHOLD small classes pairs t included work room ≡ coherence_ratio_default text small classes pairs t included work room
 unfolding coherence_ratio coherence_ratio_default
 default_same text small classes pairs t included work room =
-    ap (λ (c : Cause). answered c (matches_of text DEFAULT_THRESHOLD small classes pairs t included))
+    ap (λ (c : Result ⊤ Refusal). answered c (matches_of text DEFAULT_THRESHOLD small classes pairs t included))
     (default_causes text classes pairs t included work room DEFAULT_THRESHOLD default_finite)
 
 pub default_work : (text classes pairs t included w : List ℕ) (work room : ℕ)
     → work_after (causes text DEFAULT_THRESHOLD classes pairs t included work room) text w
     ≡ work_after (causes_default text classes pairs t included work room) text w
 default_work text classes pairs t included w work room =
-    ap (λ (c : Cause). work_after c text w) (default_causes text classes pairs t included work room DEFAULT_THRESHOLD default_finite)
+    ap (λ (c : Result ⊤ Refusal). work_after c text w) (default_causes text classes pairs t included work room DEFAULT_THRESHOLD default_finite)
 
-pub default_ends : (text : List ℕ) (small : ℕ) (classes pairs t included : List ℕ) (work room : ℕ) (w : List ℕ) (a : Ranking) (new : List ℕ)
+pub default_ends : (text : List ℕ) (small : ℕ) (classes pairs t included : List ℕ) (work room : ℕ) (w : List ℕ) (a : Result Ranking Refusal) (new : List ℕ)
     → Ends text DEFAULT_THRESHOLD small classes pairs t included work room w a new
     → (a ≡ coherence_ratio_default text small classes pairs t included work room)
     × (new ≡ work_after (causes_default text classes pairs t included work room) text w)

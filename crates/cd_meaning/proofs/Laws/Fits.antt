@@ -1,14 +1,14 @@
 -- A call that is not refused: all its kept matches are known of (`kept_known`), so that the laws of Rattle.cd_ranking.proofs.Laws.Ranking hold of its
 -- matches; and there is room for them (`ratio_fits`).
 -- Assumes nothing.
+use Rattle.std.specs.Prelude.{Result, Ok, Err, ⊤, IfOk}
 use Prim.Native.Nat.{ℕ, ◌≤◌}
 use mathlib.Core.Path.{◌≡◌, refl}
 use mathlib.Core.List.{List}
 use native.Mathlib.Omega.{arith}
 use lib.Ieee.{Float}
 use lib.ListN.{length, replicate, length-replicate}
-use Rattle.base.specs.declared.Cause.{Cause}
-use Rattle.base.specs.declared.Cause.TheVariants.{Allowed, Refused}
+use Rattle.base.specs.declared.Refusal.{Refusal}
 use Rattle.base.specs.Limits.{MOST_LANGUAGES}
 use Rattle.base.specs.Put.{put}
 use Rattle.base.proofs.Laws.In.{In}
@@ -22,7 +22,7 @@ use Rattle.cd_taken_meaning.specs.Inner.Area.{slots_of, filled}
 use Rattle.cd_best.specs.Kept.{Hit}
 use Rattle.cd_best.specs.Inner.Known.{Known}
 use Rattle.cd_ranking.specs.declared.Ranking.{Ranking}
-use Rattle.cd_ranking.proofs.Laws.Ranking.{ranking_count, refused_count}
+use Rattle.cd_ranking.proofs.Laws.Ranking.{ranking_count}
 use Rattle.cd_meaning.specs.Causes.{causes}
 use Rattle.cd_meaning.specs.Inner.Causes.{Free}
 use Rattle.cd_meaning.proofs.Laws.Causes.{allowed_free, allowed_room}
@@ -49,29 +49,26 @@ module _ (text classes pairs t included : List ℕ) (work : ℕ) (free : Free te
 
 module _ (text : List ℕ) (threshold : Float) (small : ℕ) (classes pairs t included : List ℕ) where
   -- how many matches an answer may have
-  abbrev pub Fits : ℕ → Ranking → Type 0
-  Fits room r = (r.count ≤ MOST_LANGUAGES) × (r.count ≤ room)
+  abbrev pub Fits : ℕ → Result Ranking Refusal → Type 0
+  Fits room a = IfOk a (λ r. (r.count ≤ MOST_LANGUAGES) × (r.count ≤ room))
 
-  answer_fits : (work room : ℕ) (c : Cause) → causes text threshold classes pairs t included work room ≡ c
+  answer_fits : (work room : ℕ) (c : Result ⊤ Refusal) → causes text threshold classes pairs t included work room ≡ c
       → Fits room (answered c (matches_of text threshold small classes pairs t included))
   unfolding answered matches_of
-  answer_fits work room Allowed e =
+  answer_fits work room (Ok u) e =
       let free : Free text classes pairs t included work = allowed_free text classes pairs t included work room threshold _ refl e in
       let most : languages t ≤ MOST_LANGUAGES = good_most t free.comparable.languages in
       let few =
       ranking_count t (kept_of text threshold small classes pairs t included) most (kept_known text classes pairs t included work free threshold small) in
       (omega (arith, few, most), omega (arith, few, allowed_room text classes pairs t included work room threshold _ refl e))
-  answer_fits work room (Refused r) e =
-      let none = refused_count r.number r.place in
-      (omega (arith, none), omega (arith, none))
+  answer_fits work room (Err r) e = tt
 
   pub ratio_fits : (work room : ℕ) → Fits room (coherence_ratio text threshold small classes pairs t included work room)
   unfolding coherence_ratio
   ratio_fits work room = answer_fits work room (causes text threshold classes pairs t included work room) refl
 
 pub default_fits : (text : List ℕ) (small : ℕ) (classes pairs t included : List ℕ) (work room : ℕ)
-    → ((coherence_ratio_default text small classes pairs t included work room).count ≤ MOST_LANGUAGES)
-    × ((coherence_ratio_default text small classes pairs t included work room).count ≤ room)
+    → Fits text DEFAULT_THRESHOLD small classes pairs t included room (coherence_ratio_default text small classes pairs t included work room)
 default_fits text small classes pairs t included work room =
     rw (← default_same text small classes pairs t included work room)
     (ratio_fits text DEFAULT_THRESHOLD small classes pairs t included work room)

@@ -3,6 +3,7 @@
 -- other (`merged_in`, in Keys). Each mean is from 0 to 1 (`mean_score`, in Means; `means_between` of an accepted call), and its
 -- bits say which it is (`mean_read`).
 -- Assumes nothing.
+use Rattle.std.specs.Prelude.{Ok}
 use Prim.Native.Nat.{ℕ, ◌≤◌, ◌<◌}
 use mathlib.Core.Path.{◌≡◌, refl, sym, ap, ◌∙◌, subst}
 use mathlib.Core.Logic.{inl, inr}
@@ -14,7 +15,6 @@ use lib.Dec.{T, eqb, ltb}
 use lib.Ieee.{binary32, of_bits, lt}
 use lib.Ieee.Bits.{of_bits-to_bits}
 use borrow.Author.Tests.{lt-ltb, ltb-true, eq-eqb, eqb-true, eqb-false}
-use Rattle.base.specs.declared.Counted.TheVariants.{Count}
 use Rattle.base.specs.First.{first}
 use Rattle.base.specs.Inner.All.{All}
 use Rattle.base.proofs.Laws.First.{first_before, first_found, first_none}
@@ -140,5 +140,5 @@ module _ (list : List ℕ) (g : Good list) where
   mean_read i h = of_bits-to_bits binary32 (mean_at list i) (subst T (sym (mean_single list g i h)) tt)
 
 -- 02 [14]: "For scores of 0 to 1 show that each mean, rounding included, lies between 0 and 1"
-pub means_between : (list lengths : List ℕ) (room n : ℕ) → merge_answer list lengths room ≡ Count n → (i : ℕ) → i < entries list → is_score (mean_at list i) ≡ true
+pub means_between : (list lengths : List ℕ) (room n : ℕ) → merge_answer list lengths room ≡ Ok n → (i : ℕ) → i < entries list → is_score (mean_at list i) ≡ true
 means_between list lengths room n e i h = mean_score list (accepted_good list lengths [] room n e) i h

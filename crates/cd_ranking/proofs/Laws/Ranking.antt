@@ -1,7 +1,7 @@
 -- For readers, of the ranking of records that can be ranked (`Rankable`): scores never rise (`ranking_falls`), and equal ones stand in the table order of
 -- first records (`ranking_ties`); no number stands twice (`ranking_once`); each number is in the table, and its score the best of its first record
 -- (`ranking_told`); every record's match is in the ranking (`ranking_all`); there are at most as many matches as records (`ranking_few`, and
--- `ranking_count` by value), and none in a refusal (`refused_count`). The languages of kept matches can be ranked (`hits_rankable`).
+-- `ranking_count` by value). The languages of kept matches can be ranked (`hits_rankable`).
 -- Assumes nothing.
 use Prim.Native.Nat.{ℕ, ◌≤◌, ◌<◌}
 use mathlib.Core.Path.{◌≡◌, refl, sym, ap, ◌∙◌, subst}
@@ -27,7 +27,7 @@ use Rattle.cd_best.specs.Inner.Known.{Known}
 use Rattle.cd_best.proofs.Laws.Best.{has_hit, best_attained}
 use Rattle.cd_best.proofs.Laws.BitsOrder.{lt_once}
 use Rattle.cd_ranking.specs.declared.CoherenceMatch.{CoherenceMatch}
-use Rattle.cd_ranking.specs.Ranking.{matched, stands_before, match_at, in_rank, ranking_of, by_value, refused_ranking}
+use Rattle.cd_ranking.specs.Ranking.{matched, stands_before, match_at, in_rank, ranking_of, by_value}
 use Rattle.cd_ranking.specs.Inner.Keys.{key_at}
 use Rattle.cd_ranking.proofs.Laws.Keys.{Rankable, rank_before, keys_rank}
 
@@ -153,8 +153,3 @@ module _ (t : List ℕ) (hits : List Hit) (most : languages t ≤ MOST_LANGUAGES
   pub ranking_count : (by_value (ranking_of t hits)).count ≤ languages t
   unfolding by_value
   ranking_count = ranking_few hits_rankable
-
--- a refusal has no match
-pub refused_count : (number place : ℕ) → (refused_ranking number place).count ≡ 0
-unfolding refused_ranking
-refused_count number place = refl

@@ -1,4 +1,4 @@
--- A walk of the letters for an accentuated one: `accented_start`, `_more`, `_hit`, `_end`. And `accented_ranking`: the distinct letters of a layer
+-- A walk of the letters for an accentuated one: `accented_more`, `_hit`, `_end`. And `accented_ranking`: the distinct letters of a layer
 -- have one exactly if all of its letters do.
 -- Assumes nothing.
 use Prim.Native.Nat.{ℕ, ◌+◌, ◌≤◌, ◌<◌}
@@ -23,9 +23,6 @@ module _ (classes letters : List ℕ) where
       → some_accented classes (drop i letters) ≡ is_accentuated (class_of classes (get_or letters i 0)) || some_accented classes (drop (i + 1) letters)
   unfolding some_accented
   turn i h = rw (add-one i, drop-cons letters i 0 h)
-
-  pub accented_start : Still 0
-  accented_start = refl
 
   module _ {i : ℕ} (s : Still i) where
     pub accented_more : i < length letters → is_accentuated (class_of classes (get_or letters i 0)) ≡ false → Still (i + 1)

@@ -1,10 +1,5 @@
-use Prim.Native.Nat.{◌-◌}
-use lib.ListN.{length}
 use Rattle.cd_taken.proofs.Loops.Filling.{Filling}
 use Rattle.cd_taken.proofs.fill_each.Given as goal
 
-abbrev pub invariant-loop-i : goal.invariant-loop-i
-invariant-loop-i l = Filling l.classes l.text l.initial.work l.work l.k l.i
-
-abbrev pub decreases-loop-i : goal.decreases-loop-i
-decreases-loop-i l = length l.text - l.i
+abbrev pub invariant-loop-point : goal.invariant-loop-point
+invariant-loop-point l = Filling l.classes l.text l.initial.work l.work l.k l.point-index

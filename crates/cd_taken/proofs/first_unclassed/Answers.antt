@@ -1,20 +1,14 @@
 -- The invariant: 6 is given for none of the first i characters. Assumes nothing.
-use mathlib.Core.Path.{sym, ◌∙◌}
+use mathlib.Core.Path.{◌≡◌, sym, ◌∙◌}
 use native.Mathlib.Omega.{arith}
+use lib.ListN.{length}
 use Rattle.base.proofs.Laws.First.{first_start, first_hit, first_miss, first_end}
 use Rattle.cd_taken_meaning.specs.Unclassed.{unclassed_at, first_unclassed}
 use Rattle.cd_taken.proofs.first_unclassed.Goals as goal
 
-pub table-table-requires : goal.table-table-requires
-table-table-requires c = tt
-
 pub loop-i-init : goal.loop-i-init
 unfolding first_unclassed
 loop-i-init c = (omega arith, first_start _ _)
-
-pub is_unclassed-requires : goal.is_unclassed-requires
-is_unclassed-requires c =
-    (c.requires, c.table-table.ensures)
 
 pub returns-then-is_unclassed : goal.returns-then-is_unclassed
 unfolding unclassed_at
@@ -29,4 +23,6 @@ loop-i-preserved c = (
 )
 
 pub returns : goal.returns
-returns c = sym (first_end _ _ _ (omega (arith, c.loop-i.invariant.0, c.loop-i-test.false))) ∙ c.loop-i.invariant.1
+returns c =
+    let all : c.loop-i.i ≡ length c.args.text.now = omega (arith, c.loop-i.invariant.0, c.loop-i-test.false) in
+    sym all ∙ sym (first_end _ _ _ all) ∙ c.loop-i.invariant.1

@@ -3,12 +3,6 @@ use mathlib.Core.Path.{sym, ◌∙◌}
 use Rattle.cd_taken_meaning.specs.Accents.{is_accentuated}
 use Rattle.cd_taken.proofs.is_accentuated.Goals as goal
 
-pub enum_known-c : goal.enum_known-c
-enum_known-c c = c.in-At.in-At-own.keys1
-
-pub enum_told-1 : goal.enum_told-1
-enum_told-1 c = c.in_default.in_default-own.keys2
-
 pub returns-in_default : goal.returns-in_default
 unfolding is_accentuated
 returns-in_default c = rw (sym c.look_up_near.ensures ∙ c.in_default.is)
@@ -16,4 +10,4 @@ returns-in_default c = rw (sym c.look_up_near.ensures ∙ c.in_default.is)
 pub returns : goal.returns
 unfolding is_accentuated
 returns c =
-    rw (sym c.look_up_near.ensures ∙ c.in-At.is) c.is_set.ensures
+    rw (sym c.look_up_near.ensures ∙ c.in-Some.is) c.is_set.ensures

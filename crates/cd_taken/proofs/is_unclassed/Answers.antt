@@ -3,15 +3,9 @@ use mathlib.Core.Path.{sym, ◌∙◌}
 use Rattle.cd_taken_meaning.proofs.Laws.Unclassed.{unclassed_none, unclassed_itself}
 use Rattle.cd_taken.proofs.is_unclassed.Goals as goal
 
-pub enum_known-c : goal.enum_known-c
-enum_known-c c = c.in-At.in-At-own.keys1
-
-pub enum_told-1 : goal.enum_told-1
-enum_told-1 c = c.in_default.in_default-own.keys2
-
 pub returns-in_default : goal.returns-in_default
 returns-in_default c = sym (unclassed_none _ (sym c.look_up_near.ensures ∙ c.in_default.is))
 
 pub returns-then-c-point : goal.returns-then-c-point
 returns-then-c-point c =
-    sym (unclassed_itself _ c.requires.0 (sym c.look_up_near.ensures ∙ c.in-At.is) c.if-c-point.true)
+    sym (unclassed_itself _ c.requires.0 (sym c.look_up_near.ensures ∙ c.in-Some.is) c.if-c-point.true)

@@ -3,16 +3,10 @@ use mathlib.Core.Path.{sym, ◌∙◌}
 use Rattle.cd_taken_meaning.proofs.Laws.Area.{letter_none, letter_at}
 use Rattle.cd_taken.proofs.letter_of.Goals as goal
 
-pub enum_known-c : goal.enum_known-c
-enum_known-c c = c.in-At.in-At-own.keys1
-
-pub enum_told-1 : goal.enum_told-1
-enum_told-1 c = c.in_default.in_default-own.keys2
-
 pub returns-in_default : goal.returns-in_default
 returns-in_default c = sym (letter_none (sym c.look_up_near.ensures ∙ c.in_default.is))
 
 pub returns : goal.returns
 returns c =
     rw (c.pick-2.ensures.is, c.pick.ensures.is, c.is_taken-taken.ensures)
-    (sym (letter_at (sym c.look_up_near.ensures ∙ c.in-At.is)))
+    (sym (letter_at (sym c.look_up_near.ensures ∙ c.in-Some.is)))

@@ -3,6 +3,7 @@
 -- work for each are room for the slots; `filled_size`, `_ranges`, `_lowers`, `_back`: the filled area part by part; `lowers_undotted`: one letter at
 -- most for each code point is another than U+0307.
 -- Assumes nothing.
+use Rattle.std.specs.Prelude.{Option, Some, None}
 use Prim.Native.Nat.{ℕ, zero, suc, ◌+◌, ◌*◌, ◌≤◌}
 use mathlib.Core.Path.{◌≡◌, refl, sym, ap, ◌∙◌}
 use mathlib.Core.Bool.{Bool, true, false, cond, not, ◌&&◌}
@@ -16,8 +17,6 @@ use Rattle.base.specs.Numbers.{bump}
 use Rattle.base.proofs.Laws.Tests.{cond_both}
 use Rattle.class_records.specs.Records.{good_table}
 use Rattle.classes.specs.declared.Class.{Class}
-use Rattle.classes.specs.declared.Found.{Found}
-use Rattle.classes.specs.declared.Found.TheVariants.{At, Nothing}
 use Rattle.classes.specs.Lookup.{class_of}
 use Rattle.classes.proofs.Laws.Lookup.{class_lawful}
 use Rattle.cd_work.specs.Inner.Layout.{lacks_start}
@@ -33,11 +32,11 @@ use Rattle.cd_taken_meaning.specs.Taken.{CAPITAL_I_WITH_DOT, DOT_ABOVE, is_taken
 use Rattle.cd_taken_meaning.specs.Inner.Area.{slots_of, letter_of, in_slots, ranges_of, lowers_of, filled}
 
 -- by what the lookup finds
-pub letter_none : {f : Found} → f ≡ Nothing → letter_of f ≡ record { range = 0; lower = 0 }
+pub letter_none : {f : Option Class} → f ≡ None → letter_of f ≡ record { range = 0; lower = 0 }
 unfolding letter_of
 letter_none e = rw e
 
-pub letter_at : {f : Found} {c : Class} → f ≡ At c
+pub letter_at : {f : Option Class} {c : Class} → f ≡ Some c
     → letter_of f ≡ record { range = cond (is_taken c) c.range 0; lower = cond (is_taken c) c.lower 0 }
 unfolding letter_of
 letter_at e = rw e
@@ -64,11 +63,11 @@ module _ (classes : List ℕ) where
   lowers_length (p ∷ text) = slots_length p (letter_of (class_of classes p)).lower DOT_ABOVE (lowers_of classes text) text (lowers_length text)
 
   -- each is a range
-  letter_below : good_table classes ≡ true → (p : ℕ) (f : Found) → class_of classes p ≡ f → (letter_of f).range ≤ LAST_RANGE
+  letter_below : good_table classes ≡ true → (p : ℕ) (f : Option Class) → class_of classes p ≡ f → (letter_of f).range ≤ LAST_RANGE
   unfolding letter_of
-  letter_below g p (At c) e =
+  letter_below g p (Some c) e =
       cond_both (λ (b : ℕ). b ≤ LAST_RANGE) (is_taken c) c.range 0 (class_lawful classes g p c e).range (omega arith)
-  letter_below g p Nothing e = omega arith
+  letter_below g p None e = omega arith
 
   below_more : (p x : ℕ) (l : List ℕ) → x ≤ LAST_RANGE → Below l → Below (in_slots p x x l)
   below_more p x l h b zero = h
@@ -136,10 +135,10 @@ module _ (pairs classes : List ℕ) (good : good_table classes ≡ true) where
           ∙ sym (slot b x (b ∷ bs) (DOT_ABOVE ∷ xs) ys ∙ rw n (slot b DOT_ABOVE bs xs (joined pairs ys (record { range = b; letters = x ∷ [] })) ∙ rw n))
       go false = rest (joined pairs ys (record { range = b; letters = x ∷ [] })) ∙ sym (slot b x bs xs ys ∙ rw n)
 
-  one_more : (p : ℕ) (f : Found) → class_of classes p ≡ f → (cs : List Taken) (bs xs : List ℕ) → Rest cs bs xs
+  one_more : (p : ℕ) (f : Option Class) → class_of classes p ≡ f → (cs : List Taken) (bs xs : List ℕ) → Rest cs bs xs
       → Rest (taken_letters f ++ cs) (in_slots p (letter_of f).range (letter_of f).range bs) (in_slots p (letter_of f).lower DOT_ABOVE xs)
   unfolding taken_letters letter_of lowered is_taken
-  one_more p (At c) e cs bs xs rest = go (has c.flags CHAR_ALPHABETIC) (eqb c.range 0) refl
+  one_more p (Some c) e cs bs xs rest = go (has c.flags CHAR_ALPHABETIC) (eqb c.range 0) refl
     where
       go : (a z : Bool) → eqb c.range 0 ≡ z
           → Rest (cond (a && not z) (record { range = c.range; letters = c.lower ∷ cond (eqb c.point CAPITAL_I_WITH_DOT) (DOT_ABOVE ∷ []) [] } ∷ []) [] ++ cs)
@@ -148,7 +147,7 @@ module _ (pairs classes : List ℕ) (good : good_table classes ≡ true) where
       go true true n = none_taken p 0 cs bs xs rest
       go true false n = rw (class_lawful classes good p c e).point (one_taken p c.range c.lower n cs bs xs rest)
       go false z n = none_taken p 0 cs bs xs rest
-  one_more p Nothing e cs bs xs rest = none_taken p 0 cs bs xs rest
+  one_more p None e cs bs xs rest = none_taken p 0 cs bs xs rest
 
   all_taken : (text : List ℕ) → Rest (taken_chars classes text) (ranges_of classes text) (lowers_of classes text)
   unfolding taken_chars ranges_of lowers_of taken_of

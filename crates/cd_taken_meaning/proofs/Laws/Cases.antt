@@ -2,6 +2,7 @@
 -- built-in table, is taken, and has its lower case, U+0253, past it; U+0253 itself has no class. And 02 [4]: U+0130 is taken whatever the class table,
 -- with its two letters; where U+0307 has no class, 6 is given at its index.
 -- Assumes nothing.
+use Rattle.std.specs.Prelude.{Some}
 use Prim.Native.Nat.{ℕ}
 use mathlib.Core.Path.{◌≡◌, refl, ap, ◌∙◌}
 use mathlib.Core.List.{List, [], ◌∷◌}
@@ -10,7 +11,6 @@ use Rattle.base.specs.First.{first, seek}
 use Rattle.base.specs.Flags.{has}
 use Rattle.class_builtin.specs.Table.{entry_at}
 use Rattle.class_builtin.specs.Words.{flag_words, range_numbers, bases, lowers}
-use Rattle.classes.specs.declared.Found.TheVariants.{At}
 use Rattle.classes.specs.Lookup.{class_of, builtin_class, lent_class}
 use Rattle.classes.proofs.Laws.Lookup.{class_builtin}
 use Rattle.class_records.specs.Records.{holder}
@@ -34,7 +34,7 @@ pub dot_unclassed : first_unclassed [] (0x61 ∷ 0x130 ∷ []) ≡ 1
 unfolding first_unclassed unclassed_at unclassed some_missing is_taken lowered first seek has class_of builtin_class lent_class holder entry_at flag_words range_numbers bases lowers
 dot_unclassed = refl
 
-capital_i : taken_letters (At (builtin_class CAPITAL_I_WITH_DOT)) ≡ record { range = 4; letters = 0x69 ∷ 0x307 ∷ [] } ∷ []
+capital_i : taken_letters (Some (builtin_class CAPITAL_I_WITH_DOT)) ≡ record { range = 4; letters = 0x69 ∷ 0x307 ∷ [] } ∷ []
 unfolding taken_letters is_taken lowered has builtin_class entry_at flag_words range_numbers bases lowers
 capital_i = refl
 

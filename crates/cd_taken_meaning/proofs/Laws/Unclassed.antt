@@ -2,6 +2,7 @@
 -- that a character lowers to; and for readers `all_classed`, `lowers_classed`: where it is not given, every character has a class, and so has each
 -- letter that a taken one lowers to.
 -- Assumes nothing.
+use Rattle.std.specs.Prelude.{Option, Some, None}
 use Prim.Native.Nat.{ℕ, ◌<◌}
 use mathlib.Core.Path.{◌≡◌, refl, sym, ap, ◌∙◌}
 use mathlib.Core.Bool.{true, false, or-false, and-false}
@@ -16,8 +17,6 @@ use Rattle.class_builtin.specs.Table.{entry_at}
 use Rattle.class_builtin.specs.Words.{flag_words, range_numbers, bases, lowers}
 use Rattle.class_records.specs.Records.{good_table}
 use Rattle.classes.specs.declared.Class.{Class}
-use Rattle.classes.specs.declared.Found.{Found}
-use Rattle.classes.specs.declared.Found.TheVariants.{At, Nothing}
 use Rattle.classes.specs.Lookup.{class_of, builtin_class, missing}
 use Rattle.classes.proofs.Laws.Lookup.{class_builtin, class_lawful}
 use Rattle.cd_taken_meaning.specs.Taken.{CAPITAL_I_WITH_DOT, DOT_ABOVE, is_taken, lowered}
@@ -43,22 +42,22 @@ dotted_lower : (builtin_class CAPITAL_I_WITH_DOT).lower ≡ 0x69
 unfolding builtin_class entry_at flag_words range_numbers bases lowers
 dotted_lower = refl
 
-module _ (classes : List ℕ) {p : ℕ} {c : Class} (e : class_of classes p ≡ At c) where
+module _ (classes : List ℕ) {p : ℕ} {c : Class} (e : class_of classes p ≡ Some c) where
   not_dotted : c.lower ≡ p → eqb p CAPITAL_I_WITH_DOT ≡ false
   not_dotted k = by_bool (eqb p CAPITAL_I_WITH_DOT) (λ d. absurd (never (eqb-true p CAPITAL_I_WITH_DOT d))) (λ d. d)
     where
       never : p ≡ CAPITAL_I_WITH_DOT → ⊥
       never q =
-          let b : At (builtin_class CAPITAL_I_WITH_DOT) ≡ At c = sym (class_builtin classes CAPITAL_I_WITH_DOT (lit< tt)) ∙ (rw q at e) in
+          let b : Some (builtin_class CAPITAL_I_WITH_DOT) ≡ Some c = sym (class_builtin classes CAPITAL_I_WITH_DOT (lit< tt)) ∙ (rw q at e) in
           let same : builtin_class CAPITAL_I_WITH_DOT ≡ c = cc in
           omega (arith, dotted_lower, ap (λ (d : Class). d.lower) same, k, q)
 
-module _ (classes : List ℕ) {f : Found} where
-  pub unclassed_none : f ≡ Nothing → unclassed classes f ≡ true
+module _ (classes : List ℕ) {f : Option Class} where
+  pub unclassed_none : f ≡ None → unclassed classes f ≡ true
   unfolding unclassed
   unclassed_none e = rw e
 
-  module _ {c : Class} (e : f ≡ At c) where
+  module _ {c : Class} (e : f ≡ Some c) where
     pub unclassed_not_taken : is_taken c ≡ false → unclassed classes f ≡ false
     unfolding unclassed
     unclassed_not_taken t = rw (e, t)
@@ -68,7 +67,7 @@ module _ (classes : List ℕ) {f : Found} where
     unclassed_taken t = rw (e, t)
 
 -- a letter that is its own lower case
-pub unclassed_itself : (classes : List ℕ) → good_table classes ≡ true → {p : ℕ} {c : Class} → class_of classes p ≡ At c → c.lower ≡ p
+pub unclassed_itself : (classes : List ℕ) → good_table classes ≡ true → {p : ℕ} {c : Class} → class_of classes p ≡ Some c → c.lower ≡ p
     → unclassed classes (class_of classes p) ≡ false
 unfolding unclassed
 unclassed_itself classes good {p} {c} e k =
@@ -85,9 +84,9 @@ module _ (classes text : List ℕ) (all : first_unclassed classes text ≡ lengt
   unfolding unclassed
   all_classed = go (class_of classes (get_or text i 0)) none
     where
-      go : (f : Found) → unclassed classes f ≡ false → missing f ≡ false
-      go (At c) e = refl
-      go Nothing e = e
+      go : (f : Option Class) → unclassed classes f ≡ false → missing f ≡ false
+      go (Some c) e = refl
+      go None e = e
 
-  pub lowers_classed : {c : Class} → class_of classes (get_or text i 0) ≡ At c → is_taken c ≡ true → some_missing classes (lowered c) ≡ false
+  pub lowers_classed : {c : Class} → class_of classes (get_or text i 0) ≡ Some c → is_taken c ≡ true → some_missing classes (lowered c) ≡ false
   lowers_classed e t = sym (unclassed_taken classes e t) ∙ none

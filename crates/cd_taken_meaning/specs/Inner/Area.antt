@@ -2,24 +2,23 @@
 -- code point's own range, 0 where it is not taken; and its letter. That the layers of these are those of the taken characters of 01 and 02 is
 -- `split_taken` in Laws.Area.
 -- Assumes nothing.
-use Rattle.std.specs.Prelude.{ℕ, ◌+◌, ◌≤◌, cond, List, [], ◌∷◌, length, eqb}
+use Rattle.std.specs.Prelude.{ℕ, ◌+◌, ◌≤◌, cond, List, [], ◌∷◌, length, eqb, Option, Some, None}
 use Rattle.base.specs.Limits.{LONGEST_RANKED}
-use Rattle.classes.specs.declared.Found.{Found}
-use Rattle.classes.specs.declared.Found.TheVariants.{At, Nothing}
 use Rattle.classes.specs.Lookup.{class_of}
 use Rattle.cd_work.specs.Inner.Parts.{with_text, letters_in}
 use Rattle.cd_letters.specs.Letters.{count}
 use Rattle.cd_taken_meaning.specs.Taken.{is_taken, CAPITAL_I_WITH_DOT, DOT_ABOVE}
 use Rattle.cd_taken_meaning.specs.declared.Letter.{Letter}
+use Rattle.classes.specs.declared.Class.{Class}
 
 -- how many slots a text has: one for each code point, and one more for each U+0130
 abbrev pub slots_of : List ℕ → ℕ
 slots_of text = length text + count CAPITAL_I_WITH_DOT text
 
 -- the first letter of a character and its range
-unfoldable pub letter_of : Found → Letter
-letter_of (At c) = record { range = cond (is_taken c) c.range 0; lower = cond (is_taken c) c.lower 0 }
-letter_of Nothing = record { range = 0; lower = 0 }
+unfoldable pub letter_of : Option Class → Letter
+letter_of (Some c) = record { range = cond (is_taken c) c.range 0; lower = cond (is_taken c) c.lower 0 }
+letter_of None = record { range = 0; lower = 0 }
 
 -- x in the slot of the code point p, y in its second slot where it has one, and the slots behind them
 abbrev pub in_slots : ℕ → ℕ → ℕ → List ℕ → List ℕ

@@ -45,7 +45,7 @@ module _ (t packed₀ used₀ : List ℕ) where
     fits : 0 + length (letters_before t i) ≤ length used₀
     fits = omega (arith, before_length t i, number_few t i, g.laid.below, g.few, g.room)
 
-    pub gathering_length : length used ≡ length used₀
+    gathering_length : length used ≡ length used₀
     gathering_length = ap length g.so_far ∙ put_length used₀ 0 (letters_before t i) fits
 
     pub gathering_placed : i < records t → Placed t i used count links

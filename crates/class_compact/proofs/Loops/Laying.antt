@@ -26,7 +26,7 @@ module _ (f : ℕ → List ℕ) (w n : ℕ) (old : List ℕ) where
     long : length (joined f i) ≡ i * w
     long = joined_length f w i (λ j h. g.each j)
 
-    pub laying_length : length out ≡ length old
+    laying_length : length out ≡ length old
     laying_length =
         ap length g.so_far ∙ put_length old 0 (joined f i) (omega (arith, long, g.room, mul-le-mul_right w g.below))
 

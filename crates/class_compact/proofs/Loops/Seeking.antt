@@ -23,5 +23,5 @@ module _ (f : ℕ → Bool) (n : ℕ) where
     pub seeking_more : i < n → f i ≡ false → Seeking f n (i + 1)
     seeking_more h e = record { below = omega arith; so_far = sym (first_miss f n i h e) ∙ s.so_far }
 
-    pub seeking_end : n ≤ i → i ≡ first f n
-    seeking_end h = sym (first_end f n i (omega (arith, s.below))) ∙ s.so_far
+    pub seeking_end : n ≤ i → n ≡ first f n
+    seeking_end h = let e : n ≡ i = omega (arith, s.below) in e ∙ sym (first_end f n i (sym e)) ∙ s.so_far

@@ -10,7 +10,7 @@ use Rattle.class_compact.proofs.put_out.Goals as goal
 pub returns-then-records-packed : goal.returns-then-records-packed
 returns-then-records-packed c =
     let told = pack_short _ _ _ c.requires.0 (rw (c.requires.1, c.requires.2) at c.if-records-packed.true) in
-    record { value = rw c.packing_refused.ensures told.0; records_after = told.1.0; letters_after = told.1.1 }
+    record { value = rw c.refuse.ensures told.0; records_after = told.1.0; letters_after = told.1.1 }
 
 pub lay-requires : goal.lay-requires
 lay-requires c =

@@ -1,5 +1,6 @@
 -- A good table, packed, is a good compact table (`packed_good`), and its expansion is the table (`packed_back`).
 -- Assumes nothing.
+use Rattle.std.specs.Prelude.{Ok}
 use Prim.Native.Nat.{ℕ, zero, suc, ◌+◌, ◌-◌, ◌*◌, ◌/◌, ◌%◌, ◌≤◌, ◌<◌}
 use mathlib.Core.Path.{◌≡◌, refl, sym, ap, ◌∙◌}
 use mathlib.Core.Bool.{true, false, ◌&&◌}
@@ -8,7 +9,6 @@ use native.Mathlib.Omega.{arith}
 use lib.ListN.{length, get_or, get_or-append}
 use lib.Dec.{eqb, leb}
 use borrow.Author.Tests.{eqb-true, eq-eqb, le-leb, lt-ltb, le-ltb}
-use Rattle.base.specs.declared.Cause.TheVariants.{Allowed}
 use Rattle.base.specs.First.{first}
 use Rattle.base.specs.Limits.{CLASS_RECORD}
 use Rattle.base.specs.LittleEndian.{le16}
@@ -214,5 +214,5 @@ module _ (t : List ℕ) (g : good_table t ≡ true) (bytes : Bytes t) where
       rw count_same (joined_same (expansion c l) (λ i. bytes_from t (i * CLASS_RECORD) CLASS_RECORD) (records t) record_back
       ∙ joined_table t CLASS_RECORD (records t) table_whole)
 
-  pub packed_good : bad_compact c l ≡ Allowed
+  pub packed_good : bad_compact c l ≡ Ok tt
   packed_good = sound_same c l packed_sized packed_sound ∙ rw packed_back (good_free t g)

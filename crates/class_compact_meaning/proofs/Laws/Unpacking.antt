@@ -1,5 +1,6 @@
 -- A good compact table's expansion is a good table (`unpacked_good`), and packed it is the compact table again (`records_back`, `letters_back`).
 -- Assumes nothing.
+use Rattle.std.specs.Prelude.{Ok}
 use Prim.Native.Nat.{ℕ, zero, suc, ◌+◌, ◌-◌, ◌*◌, ◌/◌, ◌%◌, ◌≤◌, ◌<◌}
 use mathlib.Core.Path.{◌≡◌, refl, sym, ap, ◌∙◌}
 use mathlib.Core.Bool.{true, false}
@@ -8,7 +9,6 @@ use native.Mathlib.Nat.{zero-add}
 use native.Mathlib.Omega.{arith}
 use lib.ListN.{length, get_or-append}
 use borrow.Author.Tests.{eq-eqb, ne_eqb, leb-true, lt-ltb, le-ltb}
-use Rattle.base.specs.declared.Cause.TheVariants.{Allowed}
 use Rattle.base.specs.First.{first}
 use Rattle.base.specs.Limits.{CLASS_RECORD}
 use Rattle.base.specs.Tests.{within}
@@ -30,7 +30,7 @@ use Rattle.class_compact_meaning.proofs.Laws.Numbering.{before_old, place_none, 
 use Rattle.class_compact_meaning.proofs.Laws.Sound.{Good, good_parts, record_there, table_allowed, good_order, good_some, good_once}
 use Rattle.class_compact_meaning.proofs.Laws.Unpacked.{expansion_length, unpacked_records, base_none, lower_none, base_there, lower_there, at_letters, there}
 
-module _ (c l : List ℕ) (s : Sized c) (ok : bad_compact c l ≡ Allowed) where
+module _ (c l : List ℕ) (s : Sized c) (ok : bad_compact c l ≡ Ok tt) where
   abbrev u : List ℕ
   u = unpacked c l
 

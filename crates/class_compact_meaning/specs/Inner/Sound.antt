@@ -2,9 +2,8 @@
 -- expansion that is at hand (`Expanded`). No public promise
 -- rests on them.
 -- Assumes nothing.
-use Rattle.std.specs.Prelude.{ℕ, zero, suc, ◌+◌, ◌%◌, ◌<◌, ◌≡◌, Bool, true, false, cond, not, ◌&&◌, List, length, eqb, leb, ltb}
-use Rattle.base.specs.declared.Cause.{Cause}
-use Rattle.base.specs.declared.Cause.TheVariants.{Allowed}
+use Rattle.std.specs.Prelude.{ℕ, zero, suc, ◌+◌, ◌%◌, ◌<◌, ◌≡◌, Bool, true, false, cond, not, ◌&&◌, List, length, eqb, leb, ltb, Result, Ok, ⊤}
+use Rattle.base.specs.declared.Refusal.{Refusal}
 use Rattle.base.specs.First.{first, each}
 use Rattle.class_compact_meaning.specs.Form.{LETTERS_RECORD, compact_records, letters_in, place_at}
 use Rattle.class_compact_meaning.specs.Inner.Form.{HALF, Filled}
@@ -41,8 +40,8 @@ unfoldable pub sound : List ℕ → List ℕ → Bool
 sound c l = eqb (length l % LETTERS_RECORD) 0 && (in_first_use c (letters_in l) && all_own l)
 
 -- what the check of the expansion does not find
-unfoldable pub beyond_table : List ℕ → List ℕ → Cause
-beyond_table c l = cond (sound c l) Allowed (bad_compact c l)
+unfoldable pub beyond_table : List ℕ → List ℕ → Result ⊤ Refusal
+beyond_table c l = cond (sound c l) (Ok tt) (bad_compact c l)
 
 -- the first record whose letters are missing
 unfoldable pub first_missing : List ℕ → List ℕ → ℕ

@@ -127,8 +127,8 @@ module _ (t : List ℕ) where
           past = omega (arith, good.start, good.up);
         }
 
-    pub walked_end : records t ≤ i → i ≡ first_bad t
-    walked_end h = sym (first_end _ _ i (omega (arith, w.within))) ∙ w.so_far
+    pub walked_end : records t ≤ i → records t ≡ first_bad t
+    walked_end h = let e : records t ≡ i = omega (arith, w.within) in rw e (sym (first_end _ _ i (omega (arith, w.within))) ∙ w.so_far)
 
 -- the reduction: `good` says whether the records before i are in order, and `end` is where they end
 pub record Reduced (t : List ℕ) (i end : ℕ) (good : Bool) : Type 0 where

@@ -2,26 +2,16 @@
 -- Assumes nothing.
 use mathlib.Core.Bool.{not}
 use mathlib.Core.Path.{ap}
-use native.Mathlib.Omega.{arith}
 use Rattle.class_records.proofs.Loops.InOrder.{walked_start, walked_bad, walked_more, walked_end}
 use Rattle.class_records.proofs.first_bad.Goals as goal
 
 pub loop-i-init : goal.loop-i-init
 loop-i-init c = walked_start _
 
-pub record_at-r-requires : goal.record_at-r-requires
-record_at-r-requires c = omega arith
-
 pub returns-then-not-span_after-r : goal.returns-then-not-span_after-r
 returns-then-not-span_after-r c =
     walked_bad _ _ _ c.loop-i.invariant c.loop-i-test.true
     (ap not (rw (c.fields_good.ensures, c.span_after.ensures, c.record_at-r.ensures) at c.if-not-span_after-r.true))
-
-pub overflow_add-i : goal.overflow_add-i
-overflow_add-i c = omega arith
-
-pub loop-i-smaller : goal.loop-i-smaller
-loop-i-smaller c = omega arith
 
 pub loop-i-preserved : goal.loop-i-preserved
 loop-i-preserved c =

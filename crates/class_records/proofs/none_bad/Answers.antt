@@ -1,20 +1,10 @@
 -- `good` says whether the records passed are in order, and `end` where they end; in order up to the last code point is good for all of them.
 -- Assumes nothing.
-use native.Mathlib.Omega.{arith}
 use Rattle.class_records.proofs.Loops.InOrder.{reduced_start, reduced_more, reduced_end}
 use Rattle.class_records.proofs.none_bad.Goals as goal
 
 pub loop-i-init : goal.loop-i-init
 loop-i-init c = reduced_start _
-
-pub record_at-r-requires : goal.record_at-r-requires
-record_at-r-requires c = omega arith
-
-pub overflow_add-i : goal.overflow_add-i
-overflow_add-i c = omega arith
-
-pub loop-i-smaller : goal.loop-i-smaller
-loop-i-smaller c = omega arith
 
 pub loop-i-preserved : goal.loop-i-preserved
 loop-i-preserved c =

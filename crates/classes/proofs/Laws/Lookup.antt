@@ -1,6 +1,7 @@
 -- Laws of the lookup in a good table: what it finds is lawful; below U+0250 only the built-in table answers, past it only a lent record does; and
 -- a number that is no scalar value has no class.
 -- Assumes nothing.
+use Rattle.std.specs.Prelude.{Some, None}
 use Prim.Native.Nat.{ℕ, ◌+◌, ◌≤◌, ◌<◌}
 use mathlib.Core.Path.{◌≡◌, refl, sym, ap, ◌∙◌}
 use mathlib.Core.List.{List}
@@ -19,10 +20,9 @@ use Rattle.class_records.specs.Records.{records, record_at, no_ascii, none_or_sc
 use Rattle.class_records.proofs.Laws.Records.{table_fields, held_past, held_scalar}
 use Rattle.classes.specs.Lookup.{or_self, builtin_class, record_class, lent_class, class_of}
 use Rattle.classes.specs.declared.Class.{Class}
-use Rattle.classes.specs.declared.Found.TheVariants.{At, Nothing}
 
 module _ (t : List ℕ) (p : ℕ) where
-  pub class_builtin : p < BUILTIN_END → class_of t p ≡ At (builtin_class p)
+  pub class_builtin : p < BUILTIN_END → class_of t p ≡ Some (builtin_class p)
   unfolding class_of
   class_builtin h = rw (lt-ltb _ _ h)
 
@@ -30,11 +30,11 @@ module _ (t : List ℕ) (p : ℕ) where
   unfolding class_of
   class_lent h = rw (le-ltb _ _ h)
 
-  pub lent_held : holder t p < records t → lent_class t p ≡ At (record_class (record_at t (holder t p)) p)
+  pub lent_held : holder t p < records t → lent_class t p ≡ Some (record_class (record_at t (holder t p)) p)
   unfolding lent_class
   lent_held h = rw (lt-ltb _ _ h)
 
-  pub lent_none : records t ≤ holder t p → lent_class t p ≡ Nothing
+  pub lent_none : records t ≤ holder t p → lent_class t p ≡ None
   unfolding lent_class
   lent_none h = rw (le-ltb _ _ h)
 
@@ -104,7 +104,7 @@ module _ (t : List ℕ) (g : good_table t ≡ true) (p : ℕ) where
       }
 
   -- whatever the lookup finds is lawful
-  pub class_lawful : (c : Class) → class_of t p ≡ At c → Lawful p c
+  pub class_lawful : (c : Class) → class_of t p ≡ Some c → Lawful p c
   class_lawful c e =
       split p BUILTIN_END
       (λ l. same (builtin_class p) (sym (class_builtin t p l) ∙ e) (builtin_lawful p l))
@@ -112,20 +112,20 @@ module _ (t : List ℕ) (g : good_table t ≡ true) (p : ℕ) where
       (λ h. same (record_class (record_at t (holder t p)) p) (sym (lent_held t p h) ∙ sym (class_lent t p l) ∙ e) (lent_lawful h))
       (λ h. never (sym (lent_none t p h) ∙ sym (class_lent t p l) ∙ e)))
     where
-      same : (d : Class) → At d ≡ At c → Lawful p d → Lawful p c
+      same : (d : Class) → Some d ≡ Some c → Lawful p d → Lawful p c
       same d e l = let z : d ≡ c = cc in rw z at l
 
-      never : {A : Type 0} → Nothing ≡ At c → A
+      never : {A : Type 0} → None ≡ Some c → A
       never e = absurd (no (told e))
         where
-          told : Nothing ≡ At c → ◌≡◌ {A = ℕ} 0 1
+          told : None ≡ Some c → ◌≡◌ {A = ℕ} 0 1
           told e = cc
 
           no : ◌≡◌ {A = ℕ} 0 1 → ⊥
           no z = omega arith
 
   -- the lent table never answers where the built-in one does
-  pub lent_past : p < BUILTIN_END → lent_class t p ≡ Nothing
+  pub lent_past : p < BUILTIN_END → lent_class t p ≡ None
   lent_past h =
       split (holder t p) (records t)
       (λ l. absurd (no (held_past t g p (holder t p) l (found l))))
@@ -135,7 +135,7 @@ module _ (t : List ℕ) (g : good_table t ≡ true) (p : ℕ) where
       no k = omega arith
 
   -- a number that is no scalar value has no class
-  pub no_scalar : scalar p ≡ false → class_of t p ≡ Nothing
+  pub no_scalar : scalar p ≡ false → class_of t p ≡ None
   no_scalar h =
       split p BUILTIN_END
       (λ l. absurd (no (sym h ∙ builtin_scalar p l)))
@@ -152,6 +152,6 @@ module _ (t : List ℕ) (g : good_table t ≡ true) (p : ℕ) where
 -- the newline that is fed after every text has a class, whatever the lent table
 pub newline_class : (t : List ℕ)
     → class_of t NEWLINE
-    ≡ At (record { point = NEWLINE; flags = WHITESPACE + SEPARATOR + ASCII; range = 1; base = NEWLINE; lower = NEWLINE })
+    ≡ Some (record { point = NEWLINE; flags = WHITESPACE + SEPARATOR + ASCII; range = 1; base = NEWLINE; lower = NEWLINE })
 unfolding builtin_class
 newline_class t = class_builtin t NEWLINE (lit< tt) ∙ rw newline_entry

@@ -3,7 +3,7 @@
 use mathlib.Core.Path.{ap, sym, ◌∙◌}
 use native.Mathlib.Omega.{arith}
 use Rattle.base.specs.Causes.{refused_at}
-use Rattle.base.specs.Refusals.{BAD_CLASSES}
+use Rattle.base.specs.declared.refusals.Cause.TheVariants.{BadClasses}
 use Rattle.classes.proofs.Laws.Check.{length_refused, number_refused, record_refused, passed, first_bad_small}
 use Rattle.classes.proofs.bad_classes.Goals as goal
 
@@ -19,7 +19,7 @@ overflow_cast-first_bad c =
 
 pub returns-then-not-none_bad : goal.returns-then-not-none_bad
 returns-then-not-none_bad c =
-    c.refuse-then-not-none_bad.ensures ∙ ap (refused_at BAD_CLASSES) c.first_bad.ensures ∙ sym
+    c.refuse-then-not-none_bad.ensures ∙ ap (refused_at BadClasses) c.first_bad.ensures ∙ sym
     (record_refused _ c.if-classes-ne0.false c.if-classes-gt-MOST_CLASSES.false (sym c.none_bad.ensures ∙ c.if-not-none_bad.true))
 
 pub returns : goal.returns

@@ -1,6 +1,7 @@
 -- The export desk's way (02 [3]): the part that the chooser hands back, written as UTF-8, and read again. It is never refused but for room: whatever is handed
 -- back was scored, so it is short, and each of its numbers has a class, which none but a scalar value has (`chosen_scalars`). `chosen_written`: the part's bytes are
 -- written wherever there is room for them. `chosen_back`: what was written for it, read again, is the part. Assumes nothing.
+use Rattle.std.specs.Prelude.{Result, Ok, Err}
 use Prim.Native.Nat.{ℕ, zero, suc, ◌≤◌, ◌<◌}
 use mathlib.Core.Path.{◌≡◌, refl, sym, ap, ◌∙◌}
 use mathlib.Core.Bool.{Bool, true, false}
@@ -8,12 +9,11 @@ use mathlib.Core.List.{List, [], ◌∷◌}
 use native.Mathlib.Omega.{arith}
 use lib.Ieee.{lt}
 use lib.ListN.{length, get_or, take}
-use Rattle.base.specs.declared.Counted.TheVariants.{Count}
+use Rattle.base.specs.declared.Refusal.{Refusal}
 use Rattle.base.specs.Limits.{LONGEST_TEXT, NEWLINE}
 use Rattle.base.specs.Put.{put}
 use Rattle.base.specs.Tests.{scalar}
 use Rattle.base.proofs.Laws.Tests.{by_bool, cond_both, and_l, and_r, and_yes}
-use Rattle.classes.specs.declared.Found.TheVariants.{Nothing}
 use Rattle.classes.specs.Lookup.{class_of, missing}
 use Rattle.classes.proofs.Laws.Lookup.{no_scalar}
 use Rattle.utf8_table.specs.Encoding.{encode_all, scalars}
@@ -22,13 +22,11 @@ use Rattle.utf8_write_meaning.specs.Answer as written
 use Rattle.utf8_write_meaning.proofs.Laws.Answer.{writes}
 use Rattle.utf8_write_meaning.proofs.Laws.RoundTrips.{written_read}
 use Rattle.md_meaning.specs.declared.Score.{Score}
-use Rattle.md_meaning.specs.declared.Scored.{Scored}
-use Rattle.md_meaning.specs.declared.Scored.TheVariants.{Refused, Score as Told}
 use Rattle.md_meaning.specs.MessRatio.{whole_score}
 use Rattle.md_meaning.specs.Scan.{class_at, unclassed}
 use Rattle.md_meaning.proofs.Laws.Default.{whole_faultless}
-use Rattle.md_chooser_meaning.specs.declared.Judged.{Judged}
-use Rattle.md_chooser_meaning.specs.declared.Judged.TheVariants.{First, Second, FirstRefused, SecondRefused}
+use Rattle.md_chooser_meaning.specs.declared.Side.{Side}
+use Rattle.md_chooser_meaning.specs.declared.Side.TheVariants.{First, Second}
 use Rattle.md_chooser_meaning.specs.Cut.{only_newlines, cut}
 use Rattle.md_chooser_meaning.specs.Choose.{judged, verdict_of, part_of, chosen}
 use Rattle.md_chooser_meaning.proofs.Laws.Cut.{cut_within}
@@ -52,17 +50,17 @@ no : true ≡ false → ⊥
 no e = let z = told e in omega arith
 
 -- what holds of nothing, and of the cut of each text that was scored, holds of the part
-part_has : (P : List ℕ → Type 0) (first second : List ℕ) (a b : Scored) → P [] → ((s : Score) → a ≡ Told s → P (cut first))
-    → ((s : Score) → b ≡ Told s → P (cut second)) → P (part_of (judged a b) first second)
+part_has : (P : List ℕ → Type 0) (first second : List ℕ) (a b : Result Score Refusal) → P [] → ((s : Score) → a ≡ Ok s → P (cut first))
+    → ((s : Score) → b ≡ Ok s → P (cut second)) → P (part_of (judged a b) first second)
 unfolding judged part_of
-part_has P first second (Refused r) (Refused q) none A B = none
-part_has P first second (Refused r) (Told t) none A B = none
-part_has P first second (Told s) (Refused q) none A B = none
-part_has P first second (Told s) (Told t) none A B =
-    cond_both (λ (v : Judged). P (part_of v first second)) (lt t.sum s.sum) Second First (B t refl) (A s refl)
+part_has P first second (Err r) (Err q) none A B = none
+part_has P first second (Err r) (Ok t) none A B = none
+part_has P first second (Ok s) (Err q) none A B = none
+part_has P first second (Ok s) (Ok t) none A B =
+    cond_both (λ (v : Side). P (part_of (Ok v) first second)) (lt t.sum s.sum) Second First (B t refl) (A s refl)
 
 module _ (classes pairs : List ℕ) where
-  scored_scalars : (text : List ℕ) (s : Score) → whole_score text classes pairs ≡ Told s → scalars text ≡ true
+  scored_scalars : (text : List ℕ) (s : Score) → whole_score text classes pairs ≡ Ok s → scalars text ≡ true
   unfolding unclassed class_at
   scored_scalars text s e =
       let f = (whole_faultless text classes pairs s e).faultless in
@@ -88,10 +86,10 @@ module _ (first second classes pairs : List ℕ) where
       (λ s e. let h = (whole_faultless second classes pairs s e).faultless.short in omega (arith, cut_within second))
 
   pub chosen_written : (out : List ℕ) → length (encode_all part) ≤ length out
-      → (written.answer part (length out) ≡ Count (length (encode_all part))) × (written.out_after part out ≡ put out 0 (encode_all part))
+      → (written.answer part (length out) ≡ Ok (length (encode_all part))) × (written.out_after part out ≡ put out 0 (encode_all part))
   chosen_written out h = let w = writes part out chosen_few chosen_scalars h in (sym w.0, sym w.1)
 
-  pub chosen_back : (out : List ℕ) (n : ℕ) → written.answer part (length out) ≡ Count n → (room : List ℕ) → length part ≤ length room
-      → (read.answer (take n (written.out_after part out)) (length room) ≡ Count (length part))
+  pub chosen_back : (out : List ℕ) (n : ℕ) → written.answer part (length out) ≡ Ok n → (room : List ℕ) → length part ≤ length room
+      → (read.answer (take n (written.out_after part out)) (length room) ≡ Ok (length part))
       × (read.out_after (take n (written.out_after part out)) room ≡ put room 0 part)
   chosen_back out n e room h = written_read part out n e room h

@@ -1,23 +1,19 @@
 -- What is answered of a ranking by value, and what is put of it into a lent list, is what 01 says: of any cause (`answer_is`, `put_after`), of a call with a
--- threshold (`ratio_answer`, `ratio_after`), and the same of one without (`default_answer`, `default_after`). Of rankings merged: the flat form of each case
--- (`merged_refused`, `merged_count`).
+-- threshold (`ratio_answer`, `ratio_after`), and the same of one without (`default_answer`, `default_after`).
 -- Assumes nothing.
+use Rattle.std.specs.Prelude.{Result, Ok, Err, ⊤}
 use Prim.Native.Nat.{ℕ}
 use mathlib.Core.Path.{◌≡◌, refl, ap, ◌∙◌}
 use mathlib.Core.List.{List}
 use lib.Ieee.{Float}
 use lib.ListN.{length}
-use Rattle.base.specs.declared.Cause.{Cause}
-use Rattle.base.specs.declared.Cause.TheVariants.{Allowed, Refused}
-use Rattle.base.specs.declared.Counted.{Counted}
-use Rattle.base.specs.declared.Counted.TheVariants.{Count, Refused as NotCounted}
 use Rattle.base.specs.declared.Refusal.{Refusal}
 use Rattle.base.specs.Put.{put}
 use Rattle.base.specs.Counted.{count_unless, values, lent_after}
-use Rattle.base.specs.Refusals.{ACCEPTED}
+use Rattle.base.specs.Refusals.{number_of}
 use Rattle.base.proofs.Laws.Put.{put_nothing}
 use Rattle.cd_ranking.specs.declared.CoherenceMatch.{CoherenceMatch}
-use Rattle.cd_ranking.specs.Ranking.{by_value, refused_ranking}
+use Rattle.cd_ranking.specs.Ranking.{by_value}
 use Rattle.cd_list.specs.declared.HostRanking.{HostRanking}
 use Rattle.cd_list.specs.Inner.Lent.{matches_in, answer_of}
 use Rattle.cd_list.proofs.Laws.Lent.{matches_are, matches_none}
@@ -25,17 +21,17 @@ use Rattle.cd_meaning.specs.Causes.{causes, causes_default}
 use Rattle.cd_meaning.proofs.Laws.Causes.{default_causes}
 use Rattle.cd_meaning.specs.Coherence.{DEFAULT_THRESHOLD, matches_of, answered, coherence_ratio}
 use Rattle.cd_meaning.proofs.Laws.Coherence.{default_finite}
-use Rattle.host.specs.Matches.{host_ranking, host_merged}
+use Rattle.host.specs.Matches.{host_ranking}
 
-pub answer_is : (c : Cause) (matches : List CoherenceMatch) → answer_of (answered c matches) ≡ host_ranking c matches
-unfolding answered by_value refused_ranking host_ranking count_unless values
-answer_is Allowed matches = refl
-answer_is (Refused r) matches = refl
+pub answer_is : (c : Result ⊤ Refusal) (matches : List CoherenceMatch) → answer_of (answered c matches) ≡ host_ranking c matches
+unfolding answered by_value answer_of host_ranking count_unless values
+answer_is (Ok u) matches = refl
+answer_is (Err r) matches = refl
 
-pub put_after : (c : Cause) (matches out : List CoherenceMatch) → put out 0 (matches_in (answered c matches)) ≡ lent_after c matches out
+pub put_after : (c : Result ⊤ Refusal) (matches out : List CoherenceMatch) → put out 0 (matches_in (answered c matches)) ≡ lent_after c matches out
 unfolding answered lent_after
-put_after Allowed matches out = ap (put out 0) (matches_are matches)
-put_after (Refused r) matches out = ap (put out 0) (matches_none r.number r.place) ∙ put_nothing out 0
+put_after (Ok u) matches out = ap (put out 0) (matches_are matches)
+put_after (Err r) matches out = ap (put out 0) (matches_none r) ∙ put_nothing out 0
 
 module _ (text : List ℕ) (threshold : Float) (small : ℕ) (classes pairs t included : List ℕ) (work : ℕ) (out : List CoherenceMatch) where
   pub ratio_answer : answer_of (coherence_ratio text threshold small classes pairs t included work (length out))
@@ -57,23 +53,8 @@ module _ (text : List ℕ) (small : ℕ) (classes pairs t included : List ℕ) (
 
   pub default_answer : host_ranking (causes text DEFAULT_THRESHOLD classes pairs t included work (length out)) found
       ≡ host_ranking (causes_default text classes pairs t included work (length out)) found
-  default_answer = ap (λ (c : Cause). host_ranking c found) same
+  default_answer = ap (λ (c : Result ⊤ Refusal). host_ranking c found) same
 
   pub default_after : lent_after (causes text DEFAULT_THRESHOLD classes pairs t included work (length out)) found out
       ≡ lent_after (causes_default text classes pairs t included work (length out)) found out
-  default_after = ap (λ (c : Cause). lent_after c found out) same
-
--- ---- rankings merged
-abbrev pub refused_merge : Refusal → HostRanking
-refused_merge r = record { number = r.number; place = r.place; count = 0 }
-
-abbrev pub counted_merge : ℕ → HostRanking
-counted_merge n = record { number = ACCEPTED; place = 0; count = n }
-
-pub merged_refused : (a : Counted) (r : Refusal) → a ≡ NotCounted r → refused_merge r ≡ host_merged a
-unfolding host_merged values
-merged_refused a r e = rw e
-
-pub merged_count : (a : Counted) (n : ℕ) → a ≡ Count n → counted_merge n ≡ host_merged a
-unfolding host_merged values
-merged_count a n e = rw e
+  default_after = ap (λ (c : Result ⊤ Refusal). lent_after c found out) same

@@ -1,15 +1,18 @@
 -- One law for each verdict. Assumes nothing.
-use Rattle.md_chooser_meaning.proofs.Laws.Choose.{length_first, length_second, length_refused, length_refused_second}
+use mathlib.Core.Path.{◌≡◌}
+use Rattle.md_chooser_meaning.specs.declared.Side.TheVariants.{First, Second}
+use Rattle.md_chooser_meaning.proofs.Laws.Choose.{length_first, length_second, length_refused}
 use Rattle.md_chooser.proofs.part_length.Goals as goal
 
-pub returns-in-First : goal.returns-in-First
-returns-in-First c = length_first _ _ _ _ c.in-First.is c.cut_length.ensures
+pub returns-in-Ok-First : goal.returns-in-Ok-First
+returns-in-Ok-First c =
+    let side : c.in-Ok-First.field-0 ≡ First = rw c.in-Ok-First.is at c.in-Ok-First.field-0-is in
+    length_first _ _ _ _ (rw side at c.in-Ok-First.is) c.cut_length.ensures
 
-pub returns-in-Second : goal.returns-in-Second
-returns-in-Second c = length_second _ _ _ _ c.in-Second.is c.cut_length-in-Second.ensures
+pub returns-in-Ok-Second : goal.returns-in-Ok-Second
+returns-in-Ok-Second c =
+    let side : c.in-Ok-Second.field-0 ≡ Second = rw c.in-Ok-Second.is at c.in-Ok-Second.field-0-is in
+    length_second _ _ _ _ (rw side at c.in-Ok-Second.is) c.cut_length-in-Ok-Second.ensures
 
-pub returns-in-FirstRefused : goal.returns-in-FirstRefused
-returns-in-FirstRefused c = length_refused _ _ _ _ c.in-FirstRefused.is
-
-pub returns-in-SecondRefused : goal.returns-in-SecondRefused
-returns-in-SecondRefused c = length_refused_second _ _ _ _ c.in-SecondRefused.is
+pub returns-in-Err : goal.returns-in-Err
+returns-in-Err c = length_refused _ _ _ _ c.in-Err.is

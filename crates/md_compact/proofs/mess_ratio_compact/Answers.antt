@@ -1,14 +1,20 @@
 -- A wrong length or number is refused in its order. Assumes nothing.
-use Rattle.base.specs.Causes.{refused_at}
-use Rattle.class_compact_meaning.proofs.Laws.Sound.{wrong_refused, right_sized}
-use Rattle.md_compact.proofs.Laws.Either.{text_refused}
 use mathlib.Core.Path.{sym, ◌∙◌}
+use Rattle.base.specs.Causes.{refused_at}
+use Rattle.base.proofs.Laws.Causes.{handed_on}
+use Rattle.class_compact_meaning.proofs.Laws.Sound.{wrong_refused, right_sized}
+use Rattle.md_compact.proofs.Laws.Either.{text_before, text_refused}
 use Rattle.md_compact.proofs.mess_ratio_compact.Goals as goal
+
+pub returns-in_err-first_of_text : goal.returns-in_err-first_of_text
+returns-in_err-first_of_text c =
+    handed_on _ _ c.from_residual.ensures.1 ∙ text_before _ _ _ _ _ _ (sym c.first_of_text.ensures ∙ c.in_err-first_of_text.was)
 
 pub returns-then-wrong_list : goal.returns-then-wrong_list
 unfolding refused_at
 returns-then-wrong_list c =
-    text_refused _ _ _ _ _ _ _ (wrong_refused _ _ (sym c.wrong_list.ensures ∙ c.if-wrong_list.true)) c.first_of_text.ensures
+    c.refuse.ensures
+    ∙ text_refused _ _ _ _ _ (sym c.first_of_text.ensures ∙ c.in_ok-first_of_text.was) _ (wrong_refused _ _ (sym c.wrong_list.ensures ∙ c.if-wrong_list.true))
 
 pub score_expanded-requires : goal.score_expanded-requires
 score_expanded-requires c = right_sized _ (sym c.wrong_list.ensures ∙ c.if-wrong_list.false)

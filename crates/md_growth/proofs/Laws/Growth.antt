@@ -1,6 +1,7 @@
 -- The watched state is the scan's state (`watched_eight`), and each of its places is that of the last growth (`last_growth`). For those that step a state
 -- that they did not start: what a step does to the eight (`watch_eight`) and to each place (`watch_growth`).
 -- Assumes nothing.
+use Rattle.std.specs.Prelude.{Some}
 use Prim.Native.Nat.{ℕ, zero, suc, ◌+◌, ◌≤◌}
 use mathlib.Core.Path.{◌≡◌, refl, sym, ap, ◌∙◌}
 use mathlib.Core.Bool.{Bool, cond}
@@ -10,7 +11,6 @@ use native.Mathlib.Omega.{arith}
 use lib.Dec.{ltb}
 use Rattle.base.specs.Inner.Limits.{LARGEST}
 use Rattle.classes.specs.declared.Class.{Class}
-use Rattle.classes.specs.declared.Found.TheVariants.{At}
 use Rattle.ratio.specs.declared.EightCounts.{EightCounts}
 use Rattle.classes.specs.Pairs.{suspicious}
 use Rattle.md_eight.specs.declared.Detectors.{Detectors}
@@ -78,7 +78,7 @@ module _ (classes pairs text : List ℕ) where
   watched_start = refl
 
   -- one character more, where the lookup found its class
-  pub watched_more : (i : ℕ) (c : Class) → class_at classes text i ≡ At c
+  pub watched_more : (i : ℕ) (c : Class) → class_at classes text i ≡ Some c
       → watched_at classes pairs text (i + 1) ≡ watched_next pairs (watched_at classes pairs text i) c (i + 1)
   unfolding watched_at
   watched_more i c e = ap (watched_at classes pairs text) (add-one i) ∙ rw e

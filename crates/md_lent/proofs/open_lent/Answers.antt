@@ -7,12 +7,12 @@ use Rattle.md_lent.proofs.open_lent.Goals as goal
 
 pub float_to_bits-s : goal.float_to_bits-s
 float_to_bits-s c =
-    finite_number _ (opened_finite _ _ _ _ _ (sym c.open_line.ensures ∙ c.in-Running.is))
+    finite_number _ (opened_finite _ _ _ _ _ (sym c.open_line.ensures ∙ c.in-Ok.is))
 
-pub returns-in-Refused : goal.returns-in-Refused
-returns-in-Refused c =
-    rw (c.no_lent.ensures, ← c.open_line.ensures) (opened_none _ _ c.in-Refused.is)
+pub returns-in-Err : goal.returns-in-Err
+returns-in-Err c =
+    rw (c.number.ensures, c.no_lent.ensures, ← c.open_line.ensures) (opened_none _ _ c.in-Err.is)
 
-pub returns-in-Running : goal.returns-in-Running
-returns-in-Running c =
-    rw (c.lent_of.ensures, ← c.open_line.ensures) (opened_line _ _ c.in-Running.is)
+pub returns-in-Ok : goal.returns-in-Ok
+returns-in-Ok c =
+    rw (c.lent_of.ensures, ← c.open_line.ensures) (opened_line _ _ c.in-Ok.is)

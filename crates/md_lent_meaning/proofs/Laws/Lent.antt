@@ -1,21 +1,18 @@
 -- Laws of the lent numbers: what a call leaves of them (`next_same`, `next_fed`, `left_refused`, `left_counted`); opening (`opened_none`, `opened_line`);
 -- and that numbers which a call wrote mean the state that it wrote (`back`).
 -- Assumes nothing.
+use Rattle.std.specs.Prelude.{Result, Ok, Err}
 use Prim.Native.Nat.{ℕ}
 use mathlib.Core.Path.{◌≡◌, refl}
 use mathlib.Core.Bool.{Bool, true, false, ◌||◌}
 use lib.Dec.{eqb}
 use lib.Ieee.{of_bits, binary32, to_bits}
-use Rattle.base.specs.declared.Counted.{Counted}
-use Rattle.base.specs.declared.Counted.TheVariants.{Count, Refused}
 use Rattle.base.specs.declared.Refusal.{Refusal}
 use Rattle.base.specs.Numbers.{bump}
-use Rattle.base.specs.Refusals.{ACCEPTED}
+use Rattle.base.specs.Refusals.{ACCEPTED, number_of}
 use Rattle.ratio.specs.Rounded.{ZERO, bits_of}
 use Rattle.md_growth.specs.Growth.{no_growths}
 use Rattle.md_running_meaning.specs.declared.Running.{Running}
-use Rattle.md_running_meaning.specs.declared.Opened.{Opened}
-use Rattle.md_running_meaning.specs.declared.Opened.TheVariants.{Running as Open, Refused as NotOpen}
 use Rattle.md_running_meaning.specs.declared.Fed.{Fed}
 use Rattle.md_running_meaning.specs.Opening.{no_line, values}
 use Rattle.md_lent_meaning.specs.declared.HostRunning.{HostRunning}
@@ -35,11 +32,11 @@ module _ (h : HostRunning) (s : Running) where
 
 module _ (h : HostRunning) (f : Fed) where
   -- "Refusals, state unchanged"
-  pub left_refused : (r : Refusal) → f.answer ≡ Refused r → record { state = h; answer = Refused r } ≡ fed_lent h f
+  pub left_refused : (r : Refusal) → f.answer ≡ Err r → record { state = h; answer = Err r } ≡ fed_lent h f
   unfolding fed_lent left_of
   left_refused r e = rw e
 
-  pub left_counted : (n : ℕ) → f.answer ≡ Count n → record { state = next_lent h f.state; answer = Count n } ≡ fed_lent h f
+  pub left_counted : (n : ℕ) → f.answer ≡ Ok n → record { state = next_lent h f.state; answer = Ok n } ≡ fed_lent h f
   unfolding fed_lent left_of
   left_counted n e = rw e
 
@@ -48,12 +45,12 @@ none_lent : lent_of no_line (bits_of ZERO) ≡ no_lent
 unfolding lent_of no_line no_lent no_growths of_bits to_bits
 none_lent = refl
 
-module _ (a : Opened) where
-  pub opened_none : (r : Refusal) → a ≡ NotOpen r → record { number = r.number; place = r.place; state = no_lent } ≡ host_opened a
+module _ (a : Result Running Refusal) where
+  pub opened_none : (r : Refusal) → a ≡ Err r → record { number = number_of r.cause; place = r.place; state = no_lent } ≡ host_opened a
   unfolding host_opened values no_line
   opened_none r e = rw (e, ← none_lent)
 
-  pub opened_line : (s : Running) → a ≡ Open s → record { number = ACCEPTED; place = 0; state = lent_of s (bits_of s.threshold) } ≡ host_opened a
+  pub opened_line : (s : Running) → a ≡ Ok s → record { number = ACCEPTED; place = 0; state = lent_of s (bits_of s.threshold) } ≡ host_opened a
   unfolding host_opened values
   opened_line s e = rw e
 

@@ -1,14 +1,18 @@
 -- The sum that counts the ends of lines, and the lines by their ends: as many as ends, and one more where the last byte is none.
 -- Assumes nothing.
+use Rattle.std.specs.Prelude.{Option, Some, None}
+use Rattle.std.specs.List.{slice_get}
+use Rattle.std.proofs.lemmas.Option.{none-some, get_or_from_slice_get, slice_get-get_or}
 use Prim.Native.Nat.{ℕ, suc, ◌+◌, ◌-◌, ◌≤◌, ◌<◌}
 use mathlib.Core.Path.{◌≡◌, refl, sym, ap, ◌∙◌}
 use mathlib.Core.Bool.{Bool, true, false, not}
 use mathlib.Core.List.{List, [], ◌∷◌, ◌++◌}
+use mir.Val.{bool_byte}
 use native.Mathlib.Numerals.{add-one}
 use native.Mathlib.Omega.{arith}
 use lib.Dec.{eqb}
-use lib.ListN.{length, take, drop, get_or, drop_of_length-le, take-append-drop}
-use lib.Seq.{drop-cons, drop-drop}
+use lib.ListN.{length, drop, get_or, drop_of_length-le}
+use lib.Seq.{drop-cons}
 use borrow.Author.Tests.{eq-eqb, ne_eqb}
 use Rattle.base.specs.Limits.{NEWLINE}
 use Rattle.base.specs.Numbers.{bump}
@@ -39,9 +43,18 @@ ends_both (x ∷ xs) ys =
     let e : ends_of ((x ∷ xs) ++ ys) ≡ bump (eqb x NEWLINE) + ends_of (xs ++ ys) = ends_cons x (xs ++ ys) in
     omega (arith, e, ends_cons x xs, ends_both xs ys)
 
+-- the ends of a part, and those of the rest
+pub ends_parts : (bytes part rest : List ℕ) → bytes ≡ part ++ rest → ends_of bytes ≡ ends_of part + ends_of rest
+ends_parts bytes part rest e = ap ends_of e ∙ ends_both part rest
+
 -- a number of ends that was counted is as small as the bytes are few
 pub ends_below : (bytes : List ℕ) (n most : ℕ) → n ≡ ends_of bytes → length bytes ≤ most → n ≤ most
 ends_below bytes n most e h = omega (arith, e, h, ends_few bytes)
+
+-- a test as a byte is a number that says it
+pub byte_bump : (b : Bool) (k : ℕ) → k ≡ bool_byte b → (k ≡ bump b) × (k ≤ 1)
+byte_bump true k e = (e, omega (arith, e))
+byte_bump false k e = (e, omega (arith, e))
 
 -- n ends stand before i
 pub record Counting (bytes : List ℕ) (n i : ℕ) : Type 0 where
@@ -58,16 +71,6 @@ module _ (bytes : List ℕ) where
         drop-cons bytes i 0 h ∙ ap (λ (m : ℕ). get_or bytes i 0 ∷ drop m bytes) (sym (add-one i)) in
         let s : ends_of (drop i bytes) ≡ bump (eqb (get_or bytes i 0) NEWLINE) + ends_of (drop (i + 1) bytes) =
         ap ends_of d ∙ ends_cons (get_or bytes i 0) (drop (i + 1) bytes) in
-        record { whole = omega (arith, c.whole, s, e) }
-
-    -- the ends of a part more
-    pub counting_part : (j k : ℕ) → k ≡ ends_of (take (j - i) (drop i bytes)) → i ≤ j → Counting bytes (n + k) j
-    counting_part j k e h =
-        let z : i + (j - i) ≡ j = omega (arith, h) in
-        let d : drop i bytes ≡ take (j - i) (drop i bytes) ++ drop j bytes =
-        sym (take-append-drop (j - i) (drop i bytes))
-        ∙ ap (λ (r : List ℕ). take (j - i) (drop i bytes) ++ r) (drop-drop (j - i) i bytes ∙ ap (λ (m : ℕ). drop m bytes) z) in
-        let s = ap ends_of d ∙ ends_both (take (j - i) (drop i bytes)) (drop j bytes) in
         record { whole = omega (arith, c.whole, s, e) }
 
     pub counting_few : n ≤ length bytes
@@ -104,19 +107,25 @@ lines_ends b (c ∷ cs) =
     (λ e. rw (ended_lines b (c ∷ cs) e, ends_cons b (c ∷ cs), e, last_more b c cs) (omega (arith, lines_ends c cs)))
     (λ e. rw (more_lines b (c ∷ cs) e, joined_same b (lines_of (c ∷ cs)) (some_lines c cs), ends_cons b (c ∷ cs), e, last_more b c cs) (omega (arith, lines_ends c cs)))
 
-pub none_counted : (bytes : List ℕ) → length bytes ≡ 0 → 0 ≡ length (lines_of bytes)
-none_counted [] h = rw lines_none
-none_counted (b ∷ bs) h = omega arith
+-- the last byte, if there is one
+abbrev last_of : List ℕ → Option ℕ
+last_of bytes = slice_get bytes (length bytes - 1)
 
-module _ (n : ℕ) where
-  pub last_ends : (bytes : List ℕ) → (length bytes ≡ 0 → ⊥) → n ≡ ends_of bytes → last bytes ≡ NEWLINE → n ≡ length (lines_of bytes)
-  last_ends [] h c e = rw lines_none (omega (arith, c, ends_none))
-  last_ends (b ∷ bs) h c e =
-      let t : bump (not (eqb (last (b ∷ bs)) NEWLINE)) ≡ 0 = rw (eq-eqb (last (b ∷ bs)) NEWLINE e) in
+pub none_counted : (bytes : List ℕ) → last_of bytes ≡ None → 0 ≡ length (lines_of bytes)
+none_counted [] e = rw lines_none
+none_counted (b ∷ bs) e = absurd (none-some _ (sym e ∙ slice_get-get_or (b ∷ bs) (length (b ∷ bs) - 1) 0 (omega arith)))
+
+module _ (n x : ℕ) where
+  pub last_ends : (bytes : List ℕ) → n ≡ ends_of bytes → last_of bytes ≡ Some x → x ≡ NEWLINE → n ≡ length (lines_of bytes)
+  last_ends [] c l e = absurd (none-some x l)
+  last_ends (b ∷ bs) c l e =
+      let at_end : last (b ∷ bs) ≡ NEWLINE = get_or_from_slice_get (b ∷ bs) _ x 0 l ∙ e in
+      let t : bump (not (eqb (last (b ∷ bs)) NEWLINE)) ≡ 0 = rw (eq-eqb (last (b ∷ bs)) NEWLINE at_end) in
       omega (arith, c, t, lines_ends b bs)
 
-  pub last_open : (bytes : List ℕ) → (length bytes ≡ 0 → ⊥) → n ≡ ends_of bytes → (last bytes ≡ NEWLINE → ⊥) → n + 1 ≡ length (lines_of bytes)
-  last_open [] h c e = absurd (h refl)
-  last_open (b ∷ bs) h c e =
-      let t : bump (not (eqb (last (b ∷ bs)) NEWLINE)) ≡ 1 = rw (ne_eqb (last (b ∷ bs)) NEWLINE e) in
+  pub last_open : (bytes : List ℕ) → n ≡ ends_of bytes → last_of bytes ≡ Some x → (x ≡ NEWLINE → ⊥) → n + 1 ≡ length (lines_of bytes)
+  last_open [] c l e = absurd (none-some x l)
+  last_open (b ∷ bs) c l e =
+      let other : last (b ∷ bs) ≡ NEWLINE → ⊥ = λ h. e (sym (get_or_from_slice_get (b ∷ bs) _ x 0 l) ∙ h) in
+      let t : bump (not (eqb (last (b ∷ bs)) NEWLINE)) ≡ 1 = rw (ne_eqb (last (b ∷ bs)) NEWLINE other) in
       omega (arith, c, t, lines_ends b bs)

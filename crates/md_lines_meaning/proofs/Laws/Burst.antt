@@ -1,6 +1,7 @@
 -- One law for each way in which `score_lines` returns (`over`, `faulty`, `no_room_lem`, `scored`); the row of each case of an answer
 -- (`row_refused`, `row_told`, `row_room`); and that a line has NUMBERS-PER-LINE numbers (`row_length`, `rows_length`).
 -- Assumes nothing.
+use Rattle.std.specs.Prelude.{Result, Ok, Err}
 use Prim.Native.Nat.{ℕ, ◌+◌, ◌*◌, ◌≤◌, ◌<◌}
 use mathlib.Core.Path.{◌≡◌, refl, sym, ap, ◌∙◌}
 use mathlib.Core.List.{List, [], ◌∷◌, ◌++◌}
@@ -9,14 +10,13 @@ use lib.Dec.{lit≤}
 use lib.Ieee.{Float, of_bits, to_bits}
 use lib.ListN.{length, replicate, set, length-append}
 use borrow.Author.Tests.{lt-ltb, le-ltb}
-use Rattle.base.specs.declared.Cause.TheVariants.{Allowed, Refused}
-use Rattle.base.specs.declared.Counted.{Counted}
-use Rattle.base.specs.declared.Counted.TheVariants.{Count, Refused as NotCounted}
+use Rattle.base.specs.declared.refusals.Cause.{Cause}
 use Rattle.base.specs.Causes.{refused_at, first_of}
 use Rattle.base.specs.Counted.{count_unless}
 use Rattle.base.specs.Numbers.{bump}
 use Rattle.base.specs.Put.{put}
-use Rattle.base.specs.Refusals.{ACCEPTED, TOO_LONG, NO_ROOM}
+use Rattle.base.specs.Refusals.{ACCEPTED, number_of}
+use Rattle.base.specs.declared.refusals.Cause.TheVariants.{TooLong, NoRoom}
 use Rattle.base.specs.declared.Refusal.{Refusal}
 use Rattle.base.proofs.Laws.Causes.{first_given, first_passed, first_front, first_past}
 use Rattle.base.proofs.Laws.Counted.{counted_allowed, counted_refused, counted_at, after_allowed, after_refused}
@@ -26,20 +26,18 @@ use Rattle.ratio.specs.Eight.{DETECTORS, bits}
 use Rattle.ratio.specs.Rounded.{bits_of}
 use Rattle.ratio.specs.Shown.{shown_numbers, numbers_of}
 use Rattle.md_meaning.specs.declared.Score.{Score}
-use Rattle.md_meaning.specs.declared.Scored.{Scored}
-use Rattle.md_meaning.specs.declared.Scored.TheVariants.{Score as Told, Refused as Unscored}
 use Rattle.md_meaning.specs.Inner.Lent.{of_lent, bad_lent}
 use Rattle.md_meaning.specs.Values.{values}
 use Rattle.md_utf8_meaning.specs.ScoreUtf8.{mess_ratio_utf8}
 use Rattle.md_lines_meaning.specs.Lines.{lines_of}
 use Rattle.md_lines_meaning.specs.Burst.{NUMBERS_PER_LINE, LONGEST_BURST, numbers, row_numbers, rows, row_of, many_bytes, no_room, causes, answer, out_after}
 
-pub row_length : (a : Scored) → length (row_numbers a) ≡ NUMBERS_PER_LINE
+pub row_length : (a : Result Score Refusal) → length (row_numbers a) ≡ NUMBERS_PER_LINE
 unfolding row_numbers numbers bits shown_numbers numbers_of
 row_length a = refl
 
 -- a row of zeros in which the numbers of a refusal were put, and those of a score
-pub row_refused : (r : Refusal) → set (set (replicate NUMBERS_PER_LINE 0) 0 r.number) 1 r.place ≡ row_numbers (Unscored r)
+pub row_refused : (r : Refusal) → set (set (replicate NUMBERS_PER_LINE 0) 0 (number_of r.cause)) 1 r.place ≡ row_numbers (Err r)
 unfolding row_numbers numbers values bits shown_numbers numbers_of of_bits to_bits
 row_refused r = refl
 
@@ -57,7 +55,7 @@ pub row_told : (s : Score) (ratios : List ℕ) (stopped : ℕ) (counts : List �
     stopped)
     (5 + DETECTORS)
     counts
-    ≡ row_numbers (Told s)
+    ≡ row_numbers (Ok s)
 unfolding row_numbers numbers values bits shown_numbers numbers_of put
 row_told s ratios stopped counts d e f = rw (d, e, f)
 
@@ -85,46 +83,46 @@ module _ (threshold : Float) (classes pairs : List ℕ) where
       ∙ omega (arith, row_length (mess_ratio_utf8 l threshold classes pairs), rows_length ls)
 
 -- ---- the answer is a, and the output is left as new
-abbrev pub Ends : List ℕ → Float → List ℕ → List ℕ → List ℕ → Counted → List ℕ → Type 0
+abbrev pub Ends : List ℕ → Float → List ℕ → List ℕ → List ℕ → Result ℕ Refusal → List ℕ → Type 0
 Ends bytes threshold classes pairs out a new =
     (a ≡ answer bytes threshold classes pairs (length out)) × (new ≡ out_after bytes threshold classes pairs out)
 
 module _ (bytes : List ℕ) (threshold : Float) (classes pairs out : List ℕ) where
   -- what a cause, or none, makes of both
-  ends_at : (number place : ℕ) → causes bytes threshold classes pairs (length out) ≡ refused_at number place
-      → Ends bytes threshold classes pairs out (count_unless (refused_at number place) 0) out
+  ends_at : (cause : Cause) (place : ℕ) → causes bytes threshold classes pairs (length out) ≡ refused_at cause place
+      → Ends bytes threshold classes pairs out (refused_at cause place) out
   unfolding answer out_after refused_at
-  ends_at number place e = (counted_at _ _ number place e, sym (after_refused _ out _ _ e))
+  ends_at cause place e = (counted_at _ _ cause place e, sym (after_refused _ out _ _ e))
 
-  pub over : LONGEST_BURST < length bytes → Ends bytes threshold classes pairs out (count_unless (refused_at TOO_LONG 0) 0) out
+  pub over : LONGEST_BURST < length bytes → Ends bytes threshold classes pairs out (refused_at TooLong 0) out
   unfolding causes many_bytes
-  over h = ends_at TOO_LONG 0 (first_given _ _ TOO_LONG 0 (lt-ltb LONGEST_BURST (length bytes) h))
+  over h = ends_at TooLong 0 (first_given _ _ TooLong 0 (lt-ltb LONGEST_BURST (length bytes) h))
 
   module _ (h : length bytes ≤ LONGEST_BURST) where
     not_over : causes bytes threshold classes pairs (length out) ≡ first_of (of_lent threshold classes pairs ++ (no_room bytes (length out) ∷ []))
     unfolding causes many_bytes
-    not_over = first_passed _ _ TOO_LONG 0 (le-ltb LONGEST_BURST (length bytes) h)
+    not_over = first_passed _ _ TooLong 0 (le-ltb LONGEST_BURST (length bytes) h)
 
-    pub faulty : (r : Refusal) → bad_lent threshold classes pairs ≡ Refused r → Ends bytes threshold classes pairs out (NotCounted r) out
+    pub faulty : (r : Refusal) → bad_lent threshold classes pairs ≡ Err r → Ends bytes threshold classes pairs out (Err r) out
     unfolding answer out_after bad_lent
     faulty r e =
         let f = not_over ∙ first_front (of_lent threshold classes pairs) (no_room bytes (length out) ∷ []) r e in
         (sym (counted_refused _ _ r f), sym (after_refused _ out _ r f))
 
-    module _ (e : bad_lent threshold classes pairs ≡ Allowed) (lines : ℕ) (c : lines ≡ length (lines_of bytes)) where
+    module _ (e : bad_lent threshold classes pairs ≡ Ok tt) (lines : ℕ) (c : lines ≡ length (lines_of bytes)) where
       left_over : causes bytes threshold classes pairs (length out) ≡ first_of (no_room bytes (length out) ∷ [])
       unfolding bad_lent
       left_over = not_over ∙ first_past (of_lent threshold classes pairs) (no_room bytes (length out) ∷ []) e
 
-      pub no_room_lem : length out < NUMBERS_PER_LINE * lines → Ends bytes threshold classes pairs out (count_unless (refused_at NO_ROOM 0) 0) out
+      pub no_room_lem : length out < NUMBERS_PER_LINE * lines → Ends bytes threshold classes pairs out (refused_at NoRoom 0) out
       unfolding no_room
       no_room_lem k =
-          ends_at NO_ROOM 0
-          (left_over ∙ first_given [] _ NO_ROOM 0 (lt-ltb (length out) (NUMBERS_PER_LINE * length (lines_of bytes)) (omega arith)))
+          ends_at NoRoom 0
+          (left_over ∙ first_given [] _ NoRoom 0 (lt-ltb (length out) (NUMBERS_PER_LINE * length (lines_of bytes)) (omega arith)))
 
       pub scored : NUMBERS_PER_LINE * lines ≤ length out
-          → Ends bytes threshold classes pairs out (Count lines) (put out 0 (rows threshold classes pairs (lines_of bytes)))
+          → Ends bytes threshold classes pairs out (Ok lines) (put out 0 (rows threshold classes pairs (lines_of bytes)))
       unfolding no_room answer out_after first_of
       scored k =
-          let f = left_over ∙ first_passed [] _ NO_ROOM 0 (le-ltb (length out) (NUMBERS_PER_LINE * length (lines_of bytes)) (omega arith)) in
-          (ap Count c ∙ sym (counted_allowed _ _ f), sym (after_allowed _ out _ f))
+          let f = left_over ∙ first_passed [] _ NoRoom 0 (le-ltb (length out) (NUMBERS_PER_LINE * length (lines_of bytes)) (omega arith)) in
+          (ap Ok c ∙ sym (counted_allowed _ _ f), sym (after_allowed _ out _ f))

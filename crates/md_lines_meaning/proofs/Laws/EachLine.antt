@@ -3,6 +3,7 @@
 -- (`demand_three_lines`), and so do 01's bounds of the ratios (`lines_at_most`). A threshold that such a call takes is finite; that it is an f32
 -- is what the call's signature says of it (`fits`).
 -- Assumes nothing.
+use Rattle.std.specs.Prelude.{Ok}
 use Prim.Native.Nat.{ℕ, zero, suc, ◌+◌, ◌*◌, ◌≤◌, ◌<◌}
 use mathlib.Core.Path.{◌≡◌, refl, sym, ap, ◌∙◌}
 use mathlib.Core.Bool.{true, not}
@@ -13,10 +14,8 @@ use lib.Ieee.{Float, binary32, fits}
 use lib.ListN.{length, get_or, take, drop}
 use lib.Seq.{take_at, drop-append-add}
 use borrow.Author.Tests.{ltb-false, le-ltb, not-false}
-use Rattle.base.specs.declared.Cause.TheVariants.{Allowed}
-use Rattle.base.specs.declared.Counted.TheVariants.{Count}
 use Rattle.base.specs.Causes.{first_of}
-use Rattle.base.specs.Refusals.{TOO_LONG, NO_ROOM, NOT_FINITE}
+use Rattle.base.specs.declared.refusals.Cause.TheVariants.{TooLong, NoRoom, NotFinite}
 use Rattle.base.proofs.Laws.Causes.{first_free, free_first, given_free, free_given}
 use Rattle.base.proofs.Laws.Counted.{counted_allowed, count_allowed, count_is, after_allowed}
 use Rattle.base.proofs.Laws.Put.{put_first}
@@ -27,7 +26,6 @@ use Rattle.classes.proofs.Laws.Tables.{free_tables, tables_free}
 use Rattle.ratio.specs.Finite.{is_finite, not_finite, Finite}
 use Rattle.utf8_meaning.specs.Text.{text_of}
 use Rattle.md_meaning.specs.declared.Score.{Score}
-use Rattle.md_meaning.specs.declared.Scored.TheVariants.{Score as Told}
 use Rattle.md_meaning.specs.DemandThree.{Certain}
 use Rattle.md_meaning.proofs.Laws.Plain.{Bounded}
 use Rattle.md_utf8_meaning.specs.ScoreUtf8.{mess_ratio_utf8}
@@ -44,18 +42,18 @@ pub record Faultless (bytes : List ℕ) (threshold : Float) (classes pairs : Lis
   pub enough : NUMBERS_PER_LINE * length (lines_of bytes) ≤ room
 
 module _ (bytes : List ℕ) (threshold : Float) (classes pairs : List ℕ) (room : ℕ) where
-  pub faultless_free : Faultless bytes threshold classes pairs room → causes bytes threshold classes pairs room ≡ Allowed
+  pub faultless_free : Faultless bytes threshold classes pairs room → causes bytes threshold classes pairs room ≡ Ok tt
   unfolding causes many_bytes not_finite no_room first_of
   faultless_free f =
       let t = tables_free classes pairs f.tables in
       free_first _ (not_finite threshold ∷ bad_classes classes ∷ bad_pairs pairs ∷ no_room bytes room ∷ [])
-      (free_given _ TOO_LONG 0 (le-ltb LONGEST_BURST (length bytes) f.short))
-      (free_first _ (bad_classes classes ∷ bad_pairs pairs ∷ no_room bytes room ∷ []) (free_given _ NOT_FINITE 0 (ap not f.finite))
+      (free_given _ TooLong 0 (le-ltb LONGEST_BURST (length bytes) f.short))
+      (free_first _ (bad_classes classes ∷ bad_pairs pairs ∷ no_room bytes room ∷ []) (free_given _ NotFinite 0 (ap not f.finite))
       (free_first _ (bad_pairs pairs ∷ no_room bytes room ∷ []) t.0
       (free_first _ (no_room bytes room ∷ []) t.1
-      (free_first _ [] (free_given _ NO_ROOM 0 (le-ltb room (NUMBERS_PER_LINE * length (lines_of bytes)) f.enough)) refl))))
+      (free_first _ [] (free_given _ NoRoom 0 (le-ltb room (NUMBERS_PER_LINE * length (lines_of bytes)) f.enough)) refl))))
 
-  pub free_faultless : causes bytes threshold classes pairs room ≡ Allowed → Faultless bytes threshold classes pairs room
+  pub free_faultless : causes bytes threshold classes pairs room ≡ Ok tt → Faultless bytes threshold classes pairs room
   unfolding causes many_bytes not_finite no_room
   free_faultless e =
       let a = first_free (many_bytes bytes) _ e in
@@ -64,19 +62,19 @@ module _ (bytes : List ℕ) (threshold : Float) (classes pairs : List ℕ) (room
       let d = first_free (bad_pairs pairs) _ c.1 in
       let f = first_free (no_room bytes room) _ d.1 in
       record {
-        short = ltb-false LONGEST_BURST (length bytes) (given_free _ TOO_LONG 0 a.0);
-        finite = not-false (is_finite threshold) (given_free _ NOT_FINITE 0 b.0);
+        short = ltb-false LONGEST_BURST (length bytes) (given_free _ TooLong 0 a.0);
+        finite = not-false (is_finite threshold) (given_free _ NotFinite 0 b.0);
         tables = free_tables classes pairs c.0 d.0;
-        enough = ltb-false room (NUMBERS_PER_LINE * length (lines_of bytes)) (given_free _ NO_ROOM 0 f.0);
+        enough = ltb-false room (NUMBERS_PER_LINE * length (lines_of bytes)) (given_free _ NoRoom 0 f.0);
       }
 
   -- no cause, no refusal
-  pub faultless_lines : Faultless bytes threshold classes pairs room → answer bytes threshold classes pairs room ≡ Count (length (lines_of bytes))
+  pub faultless_lines : Faultless bytes threshold classes pairs room → answer bytes threshold classes pairs room ≡ Ok (length (lines_of bytes))
   unfolding answer
   faultless_lines f = counted_allowed _ _ (faultless_free f)
 
   -- no refusal, no cause
-  pub lines_faultless : (n : ℕ) → answer bytes threshold classes pairs room ≡ Count n → Faultless bytes threshold classes pairs room × (n ≡ length (lines_of bytes))
+  pub lines_faultless : (n : ℕ) → answer bytes threshold classes pairs room ≡ Ok n → Faultless bytes threshold classes pairs room × (n ≡ length (lines_of bytes))
   unfolding answer
   lines_faultless n e = (free_faultless (count_allowed _ _ _ e), count_is _ _ _ e)
 
@@ -99,7 +97,7 @@ module _ (threshold : Float) (classes pairs : List ℕ) where
       (rw (drop-append-add row (rows threshold classes pairs ls ++ rest) (NUMBERS_PER_LINE * k))
       (row_in ls k rest (le_of_suc-le-suc h)))))
 
-module _ (bytes : List ℕ) (threshold : Float) (classes pairs out : List ℕ) (n : ℕ) (e : answer bytes threshold classes pairs (length out) ≡ Count n) (k : ℕ) (h : k < n) where
+module _ (bytes : List ℕ) (threshold : Float) (classes pairs out : List ℕ) (n : ℕ) (e : answer bytes threshold classes pairs (length out) ≡ Ok n) (k : ℕ) (h : k < n) where
   -- the line k, from 0 on
   abbrev pub the_line : List ℕ
   the_line = get_or (lines_of bytes) k []
@@ -117,8 +115,8 @@ module _ (bytes : List ℕ) (threshold : Float) (classes pairs out : List ℕ) (
       (rw (put_first out (rows threshold classes pairs (lines_of bytes)))
       (row_in threshold classes pairs (lines_of bytes) k _ (omega (arith, a.1))))
 
-  module _ (s : Score) (told : mess_ratio_utf8 the_line threshold classes pairs ≡ Told s) where
-    pub row_scored : the_row ≡ row_numbers (Told s)
+  module _ (s : Score) (told : mess_ratio_utf8 the_line threshold classes pairs ≡ Ok s) where
+    pub row_scored : the_row ≡ row_numbers (Ok s)
     row_scored = row_at ∙ ap row_numbers told
 
     pub demand_three_lines : fits binary32 threshold ≡ true → Certain (text_of the_line) threshold classes pairs s

@@ -3,14 +3,13 @@
 -- `demand_three_default`. What a score of either has: `default_plain` and `whole_plain` (finite, no NaN, not below +0.0), `default_at_most` and
 -- `whole_at_most` (01's bounds of the ratios). That 0.2 is finite is proved here, so that nothing is left to show of a threshold.
 -- Assumes nothing.
+use Rattle.std.specs.Prelude.{Ok, Some, None}
 use Prim.Native.Nat.{ℕ}
 use mathlib.Core.Path.{◌≡◌, refl, sym, ◌∙◌}
 use mathlib.Core.List.{List}
 use lib.Ieee.{of_bits, fits}
 use Rattle.ratio.specs.Finite.{Finite}
-use Rattle.md_meaning.specs.declared.Limit.TheVariants.{Threshold, Never}
 use Rattle.md_meaning.specs.declared.Score.{Score}
-use Rattle.md_meaning.specs.declared.Scored.TheVariants.{Score as Told}
 use Rattle.md_meaning.specs.Scan.{accepted_score}
 use Rattle.md_meaning.specs.MessRatio.{DEFAULT_THRESHOLD, causes_default, mess_ratio_default, whole_score}
 use Rattle.md_meaning.specs.DemandThree.{Certain}
@@ -32,10 +31,10 @@ module _ (text classes pairs : List ℕ) where
   FaultlessDefault = Faultless text DEFAULT_THRESHOLD classes pairs
 
   -- ---- the default call
-  pub faultless_default : FaultlessDefault → mess_ratio_default text classes pairs ≡ accepted_score classes pairs text (Threshold DEFAULT_THRESHOLD)
+  pub faultless_default : FaultlessDefault → mess_ratio_default text classes pairs ≡ accepted_score classes pairs text (Some DEFAULT_THRESHOLD)
   faultless_default f = sym (default_same text classes pairs) ∙ faultless_scored text DEFAULT_THRESHOLD classes pairs f
 
-  module _ (s : Score) (e : mess_ratio_default text classes pairs ≡ Told s) where
+  module _ (s : Score) (e : mess_ratio_default text classes pairs ≡ Ok s) where
     pub default_faultless : Accepted text DEFAULT_THRESHOLD classes pairs s
     default_faultless = scored_faultless text DEFAULT_THRESHOLD classes pairs s (default_same text classes pairs ∙ e)
 
@@ -49,15 +48,15 @@ module _ (text classes pairs : List ℕ) where
     default_at_most = ratio_at_most text DEFAULT_THRESHOLD classes pairs s (default_same text classes pairs ∙ e)
 
   -- ---- a text scored whole
-  pub faultless_whole : FaultlessDefault → whole_score text classes pairs ≡ accepted_score classes pairs text Never
+  pub faultless_whole : FaultlessDefault → whole_score text classes pairs ≡ accepted_score classes pairs text None
   unfolding whole_score
   faultless_whole f = unless_allowed _ _ (sym (default_causes text classes pairs) ∙ faultless_free text DEFAULT_THRESHOLD classes pairs f)
 
   pub record AcceptedWhole (s : Score) : Type 0 where
     pub faultless : FaultlessDefault
-    pub is : accepted_score classes pairs text Never ≡ Told s
+    pub is : accepted_score classes pairs text None ≡ Ok s
 
-  module _ (s : Score) (e : whole_score text classes pairs ≡ Told s) where
+  module _ (s : Score) (e : whole_score text classes pairs ≡ Ok s) where
     pub whole_faultless : AcceptedWhole s
     unfolding whole_score
     whole_faultless =
@@ -65,7 +64,7 @@ module _ (text classes pairs : List ℕ) where
         record { faultless = free_faultless text DEFAULT_THRESHOLD classes pairs (default_causes text classes pairs ∙ u.0); is = u.1 }
 
     pub whole_plain : PlainScore s
-    whole_plain = accepted_always text Never classes pairs whole_faultless.faultless.short PlainScore always_plain s whole_faultless.is
+    whole_plain = accepted_always text None classes pairs whole_faultless.faultless.short PlainScore always_plain s whole_faultless.is
 
     pub whole_at_most : Bounded s
-    whole_at_most = accepted_always text Never classes pairs whole_faultless.faultless.short Bounded always_at_most s whole_faultless.is
+    whole_at_most = accepted_always text None classes pairs whole_faultless.faultless.short Bounded always_at_most s whole_faultless.is

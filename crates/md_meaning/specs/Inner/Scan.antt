@@ -1,22 +1,17 @@
--- Words of inner contracts, beside Scan: `refused`, `answered`, `scan`. No public promise rests on them.
+-- Words of inner contracts, beside Scan: `answered`, `scan`. No public promise rests on them.
 -- Assumes nothing.
-use Rattle.std.specs.Prelude.{ℕ, Bool, List}
+use Rattle.base.specs.declared.Refusal.{Refusal}
+use Rattle.std.specs.Prelude.{ℕ, Bool, List, Result, Ok, Err, Option, Float}
 use Rattle.ratio.specs.declared.EightCounts.{EightCounts}
 use Rattle.ratio.specs.Eight.{sum, ratios, fractions_of}
 use Rattle.ratio.specs.Shown.{eight_shown}
-use Rattle.md_meaning.specs.declared.Limit.{Limit}
-use Rattle.md_meaning.specs.declared.Scored.{Scored}
-use Rattle.md_meaning.specs.declared.Scored.TheVariants.{Score, Refused}
 use Rattle.md_meaning.specs.Scan.{accepted_score, no_class, unless}
-
--- the answer that refuses
-abbrev pub refused : ℕ → ℕ → Scored
-refused number place = Refused (record { number = number; place = place })
+use Rattle.md_meaning.specs.declared.Score.{Score}
 
 -- the answer that counts make
-unfoldable pub answered : EightCounts → ℕ → Bool → Scored
+unfoldable pub answered : EightCounts → ℕ → Bool → Result Score Refusal
 answered c n early =
-    Score
+    Ok
     (record {
       ratios = ratios (fractions_of c);
       sum = sum (ratios (fractions_of c));
@@ -25,5 +20,5 @@ answered c n early =
       counts = eight_shown c (ratios (fractions_of c));
     })
 
-unfoldable pub scan : List ℕ → List ℕ → List ℕ → Limit → Scored
+unfoldable pub scan : List ℕ → List ℕ → List ℕ → Option Float → Result Score Refusal
 scan classes pairs text limit = unless (no_class classes text) (accepted_score classes pairs text limit)

@@ -1,8 +1,9 @@
 -- What the passes need of a step of the scan: the class that is fed has a range that the pair table knows (`fed_range`), the state has room (`fed_watchable`, `watched_range`), the state
 -- after it (`watched_next_lem`), and that its place of growth tells whether the numerator grew here (`grew_is`). Assumes nothing.
+use Rattle.std.specs.Prelude.{Option, Some, None}
 use Prim.Native.Nat.{ℕ, ◌+◌, ◌≤◌, ◌<◌}
 use mathlib.Core.Path.{◌≡◌, refl, sym, ap, ◌∙◌}
-use mathlib.Core.Bool.{Bool, true, false}
+use mathlib.Core.Bool.{Bool, true}
 use mathlib.Core.List.{List}
 use native.Mathlib.Numerals.{add-one}
 use native.Mathlib.Omega.{arith}
@@ -13,8 +14,6 @@ use Rattle.base.specs.Limits.{LAST_RANGE, LONGEST_TEXT}
 use Rattle.base.proofs.Laws.Tests.{by_bool}
 use Rattle.class_records.specs.Records.{good_table}
 use Rattle.classes.specs.declared.Class.{Class}
-use Rattle.classes.specs.declared.Found.{Found}
-use Rattle.classes.specs.declared.Found.TheVariants.{At, Nothing}
 use Rattle.md_eight.specs.Detectors.{last_range}
 use Rattle.md_meaning.specs.Text.{char_at, total}
 use Rattle.md_meaning.specs.Scan.{class_in, class_at}
@@ -24,9 +23,9 @@ use Rattle.md_growth.specs.Inner.Growth.{Watchable}
 use Rattle.md_growth.proofs.Laws.Growth.{within_watchable, watched_eight, last_growth}
 use Rattle.md_growth.proofs.Laws.Last.{last_hit, last_miss, last_within}
 
-in_range : (p : ℕ) (f : Found) → ((c : Class) → f ≡ At c → c.range ≤ LAST_RANGE) → (class_in p f).range ≤ LAST_RANGE
-in_range p (At c) r = r c refl
-in_range p Nothing r = omega arith
+in_range : (p : ℕ) (f : Option Class) → ((c : Class) → f ≡ Some c → c.range ≤ LAST_RANGE) → (class_in p f).range ≤ LAST_RANGE
+in_range p (Some c) r = r c refl
+in_range p None r = omega arith
 
 pub fed_range : (classes text : List ℕ) → good_table classes ≡ true → (i : ℕ) → (class_in (char_at text i) (class_at classes text i)).range ≤ LAST_RANGE
 fed_range classes text g i = in_range (char_at text i) (class_at classes text i) (class_range classes text g i)

@@ -1,7 +1,7 @@
 -- The passes under way: the state is that after i characters, and the indexes below i at which the numerator grows are counted (`Counting`), or stand in the first places of the output
 -- (`Filling`). Each with its start, its step and its end. Assumes nothing.
 use Prim.Native.Nat.{ℕ, ◌+◌, ◌≤◌, ◌<◌}
-use mathlib.Core.Path.{◌≡◌, refl, sym, ap, ◌∙◌}
+use mathlib.Core.Path.{◌≡◌, sym, ap, ◌∙◌}
 use mathlib.Core.Bool.{Bool, true, false}
 use mathlib.Core.List.{List, [], ◌∷◌, ◌++◌}
 use native.Mathlib.Nat.{add-zero, zero-add}

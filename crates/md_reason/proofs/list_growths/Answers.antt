@@ -11,7 +11,7 @@ count_growths-count-requires c =
 pub returns-then-out-count : goal.returns-then-out-count
 returns-then-out-count c =
     record {
-      value = c.unreasoned.ensures ∙ listed_short _ _ _ _ _ _ (omega (arith, c.count_growths-count.ensures, c.if-out-count.true));
+      value = c.refuse.ensures ∙ listed_short _ _ _ _ _ _ (omega (arith, c.count_growths-count.ensures, c.if-out-count.true));
       out_after = short_into _ _ _ _ _ _ (omega (arith, c.count_growths-count.ensures, c.if-out-count.true));
     }
 
@@ -26,6 +26,6 @@ put_growths-requires c = (
 pub returns : goal.returns
 returns c =
     record {
-      value = listed_told _ _ _ _ _ _ _ c.count_growths-count.ensures (omega (arith, c.count_growths-count.ensures, c.if-out-count.false));
+      value = rw c.detector_at.ensures (listed_told _ _ _ _ _ _ _ c.count_growths-count.ensures (omega (arith, c.count_growths-count.ensures, c.if-out-count.false)));
       out_after = c.put_growths.ensures ∙ told_into _ _ _ _ _ _ (omega (arith, c.count_growths-count.ensures, c.if-out-count.false));
     }

@@ -1,6 +1,7 @@
 -- What reason's list is, for readers: exactly the indexes below the number fed at which the numerator grows (`listed_in`, `listed_all`), rising, so that each stands there once (`listed_rises`);
 -- its last index is the state's last growth (`last_listed`); and it is empty exactly where the greatest ratio is 0, that is where no detector is named (`none_listed`, `some_listed`).
 -- Assumes nothing.
+use Rattle.std.specs.Prelude.{Ok, Some}
 use Prim.Native.Nat.{ℕ, zero, suc, ◌+◌, ◌<◌}
 use mathlib.Core.Path.{◌≡◌, refl, sym, ap, subst, ◌∙◌}
 use mathlib.Core.Bool.{Bool, true, false, true≢false}
@@ -10,31 +11,27 @@ use native.Mathlib.Omega.{arith}
 use lib.Dec.{ltb}
 use lib.Ieee.{Float, le}
 use lib.ListN.{length}
-use borrow.Author.Tests.{ltb-true}
 use Rattle.base.proofs.Laws.In.{In}
-use Rattle.base.proofs.Laws.Tests.{by_bool, split}
+use Rattle.base.proofs.Laws.Tests.{by_bool}
 use Rattle.cd_order.proofs.Laws.Chosen.{Rises, chosen_in, chosen_all, chosen_up}
 use Rattle.ratio.specs.declared.Ratios.{Ratios}
 use Rattle.ratio.specs.Rounded.{ZERO}
 use Rattle.md_eight.specs.declared.Detectors.{Detectors}
 use Rattle.md_eight.specs.Detectors.{counts, ratios}
 use Rattle.md_eight.proofs.Loops.Detectors.{within_countable}
-use Rattle.md_meaning.specs.declared.Limit.TheVariants.{Threshold}
 use Rattle.md_meaning.specs.declared.Score.{Score}
-use Rattle.md_meaning.specs.declared.Scored.TheVariants.{Score as Scores}
 use Rattle.md_meaning.specs.Text.{total}
 use Rattle.md_meaning.specs.Scan.{state_at, scored, stop_of, accepted_score}
 use Rattle.md_meaning.specs.MessRatio.{mess_ratio}
-use Rattle.md_meaning.specs.Values as score
 use Rattle.md_meaning.proofs.Laws.Scan.{state_within}
 use Rattle.md_meaning.proofs.Laws.Accepted.{scored_faultless}
 use Rattle.md_meaning.proofs.Laws.Plain.{ratio_plain}
-use Rattle.md_growth.specs.Text.{numerator_of, numerator_at, growth_of, grows, watched_at}
+use Rattle.md_growth.specs.Text.{numerator_of, growth_of, grows, watched_at}
 use Rattle.md_growth.proofs.Laws.Growth.{last_growth}
-use Rattle.md_reason_meaning.specs.Greatest.{NO_DETECTOR, ratio_at, at_least_all, detector_of}
+use Rattle.md_reason_meaning.specs.Greatest.{NO_DETECTOR, ratio_at, detector_of}
 use Rattle.md_reason_meaning.specs.Reason.{fed_of, detector, indexes}
 use Rattle.md_reason_meaning.specs.Inner.Reason.{listed}
-use Rattle.md_reason_meaning.proofs.Laws.Greatest.{zero_plain, ratio_plain_at, all_below, detector_few, detector_none, detector_some, detector_at_least}
+use Rattle.md_reason_meaning.proofs.Laws.Greatest.{zero_plain, ratio_plain_at, all_below, detector_few, detector_some, detector_at_least}
 use Rattle.md_reason_meaning.proofs.Laws.Growths.{still_zero, still_ratio}
 use Rattle.md_reason_meaning.proofs.Laws.Indexes.{last_in, passing_none, none_passing, passing_last}
 use Rattle.md_reason_meaning.proofs.Laws.Reason.{scored_indexes, scored_detector, scored_ripe}
@@ -77,16 +74,16 @@ module _ (text : List ℕ) (threshold : Float) (classes pairs : List ℕ) where
   unfolding indexes
   none_listed e = passing_none (grows classes pairs text (detector text threshold classes pairs)) (fed_of text threshold classes pairs) (λ i h. rw e (still_none classes pairs text i))
 
-told_ratios : (t : Detectors) (n : ℕ) (early : Bool) (s : Score) → scored t n early ≡ Scores s → (s.fed ≡ n) × (s.ratios ≡ ratios t)
+told_ratios : (t : Detectors) (n : ℕ) (early : Bool) (s : Score) → scored t n early ≡ Ok s → (s.fed ≡ n) × (s.ratios ≡ ratios t)
 unfolding scored
 told_ratios t n early s e = (cc, cc)
 
-module _ (text : List ℕ) (threshold : Float) (classes pairs : List ℕ) (s : Score) (e : mess_ratio text threshold classes pairs ≡ Scores s) where
+module _ (text : List ℕ) (threshold : Float) (classes pairs : List ℕ) (s : Score) (e : mess_ratio text threshold classes pairs ≡ Ok s) where
   -- the ratios are those of the state after the characters fed
-  fed_ratios : accepted_score classes pairs text (Threshold threshold) ≡ Scores s → s.ratios ≡ ratios (state_at classes pairs text s.fed)
+  fed_ratios : accepted_score classes pairs text (Some threshold) ≡ Ok s → s.ratios ≡ ratios (state_at classes pairs text s.fed)
   unfolding accepted_score
   fed_ratios a =
-      let k = stop_of classes pairs text (Threshold threshold) in
+      let k = stop_of classes pairs text (Some threshold) in
       by_bool (ltb k (total text))
       (λ t. let r = told_ratios _ _ _ s (rw t at a) in rw r.0 r.1)
       (λ t. let r = told_ratios _ _ _ s (rw t at a) in rw r.0 r.1)

@@ -10,12 +10,12 @@ use Rattle.md_report.proofs.report.Goals as goal
 pub returns-then-lines_in-gt-MOST_LINES : goal.returns-then-lines_in-gt-MOST_LINES
 returns-then-lines_in-gt-MOST_LINES c =
     let ends = many_lines_lem _ _ _ c.lines_in.ensures c.if-lines_in-gt-MOST_LINES.true in
-    record { value = c.not_counted.ensures ∙ ends.0; out_after = ends.1 }
+    record { value = c.refuse.ensures ∙ ends.0; out_after = ends.1 }
 
 pub returns-then-out-n : goal.returns-then-out-n
 returns-then-out-n c =
     let ends = no_room_lem _ _ _ c.lines_in.ensures c.if-lines_in-gt-MOST_LINES.false _ (c.write_report-n.ensures.ends ∙ zero-add _) c.if-out-n.true in
-    record { value = c.not_counted-then-out-n.ensures ∙ ends.0; out_after = ends.1 }
+    record { value = c.refuse-then-out-n.ensures ∙ ends.0; out_after = ends.1 }
 
 pub slice_bounds-put_piece-end : goal.slice_bounds-put_piece-end
 slice_bounds-put_piece-end c =

@@ -1,12 +1,13 @@
 -- Laws of the walk over the rest of a text: which characters have a class, by the built-in table or by a record (`builtin_classed`, `held_classed`,
 -- `held_class`), and that what was passed need not be looked for again (`first_passed`).
 -- Assumes nothing.
+use Rattle.std.specs.Prelude.{Some}
 use Prim.Native.Nat.{ℕ, zero, suc, ◌+◌, ◌-◌, ◌≤◌, ◌<◌}
-use mathlib.Core.Path.{◌≡◌, refl, sym, ◌∙◌}
+use mathlib.Core.Path.{◌≡◌, ◌∙◌}
 use mathlib.Core.List.{List}
 use mathlib.Core.Bool.{Bool, true, false}
 use native.Mathlib.Omega.{arith}
-use lib.ListN.{length, get_or, get_or-eq_default}
+use lib.ListN.{length, get_or-eq_default}
 use Rattle.base.specs.Limits.{BUILTIN_END, NEWLINE}
 use Rattle.base.specs.Flags.{WHITESPACE, SEPARATOR, ASCII}
 use Rattle.base.specs.Inner.First.{first_from}
@@ -16,8 +17,7 @@ use Rattle.base.proofs.Laws.Tests.{within_lo, within_hi, within_yes}
 use Rattle.class_records.specs.Records.{records, record_at, good_table, holds, holder}
 use Rattle.class_records.proofs.Laws.Records.{holder_is, held_past}
 use Rattle.classes.specs.declared.Class.{Class}
-use Rattle.classes.specs.declared.Found.TheVariants.{At, Nothing}
-use Rattle.classes.specs.Lookup.{builtin_class, record_class, class_of}
+use Rattle.classes.specs.Lookup.{record_class, class_of}
 use Rattle.classes.proofs.Laws.Lookup.{class_builtin, class_lent, lent_held, lent_none, newline_class}
 use Rattle.md_meaning.specs.Text.{char_at}
 use Rattle.md_meaning.specs.Scan.{class_at, unclassed}
@@ -44,7 +44,7 @@ module _ (t : List ℕ) (g : good_table t ≡ true) (p at : ℕ) (l : at < recor
   inside = within_yes _ _ p a z
 
   -- a code point that a record holds has the class that the record gives
-  pub held_class : class_of t p ≡ At (record_class (record_at t at) p)
+  pub held_class : class_of t p ≡ Some (record_class (record_at t at) p)
   held_class =
       let e : holder t p ≡ at = holder_is t g p at l inside in
       class_lent t p (held_past t g p at l inside) ∙ lent_held t p (rw e l) ∙ rw e
@@ -82,7 +82,7 @@ module _ (t text : List ℕ) where
   unfolding class_at
   newline_classed =
       let e : char_at text (length text) ≡ NEWLINE = get_or-eq_default text NEWLINE (omega arith) in
-      let k : class_of t (char_at text (length text)) ≡ At newline_class_lem = rw e (newline_class t) in
+      let k : class_of t (char_at text (length text)) ≡ Some newline_class_lem = rw e (newline_class t) in
       is_classed t text (length text) newline_class_lem k
     where
       newline_class_lem : Class

@@ -2,14 +2,14 @@
 -- records ascend and have no surrogate inside, so a scalar value that none of them held would be missing in the sum.
 -- Assumes nothing.
 use Prim.Native.Nat.{ℕ, zero, suc, ◌+◌, ◌-◌, ◌≤◌, ◌<◌}
-use mathlib.Core.Path.{◌≡◌, refl, sym, ap, ◌∙◌}
+use mathlib.Core.Path.{◌≡◌, sym, ap, ◌∙◌}
 use mathlib.Core.List.{List}
-use mathlib.Core.Bool.{Bool, true, false, not, ◌&&◌, ◌||◌}
+use mathlib.Core.Bool.{true, false, not}
 use native.Mathlib.Omega.{arith}
 use lib.Dec.{leb, ltb}
-use borrow.Author.Tests.{ltb-true, leb-true, not-false}
+use borrow.Author.Tests.{ltb-true, leb-true}
 use Rattle.base.specs.Limits.{BUILTIN_END, LAST_POINT, SURROGATE_FIRST, SURROGATE_LAST}
-use Rattle.base.specs.Tests.{scalar, within}
+use Rattle.base.specs.Tests.{scalar}
 use Rattle.base.proofs.Laws.Tests.{by_bool, split, and_l, and_r, or_l, within_yes}
 use Rattle.class_records.specs.Records.{records, record_at, good_table, good_at}
 use Rattle.class_records.proofs.Laws.Records.{good_span_lem, good_follows, follows_next, each_good, table_none_bad}

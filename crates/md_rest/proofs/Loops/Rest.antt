@@ -1,72 +1,21 @@
 -- The walks over the rest of a text: what holds of what is passed, at the start, one step on and at the end.
 -- Assumes nothing.
 use Prim.Native.Nat.{ℕ, ◌+◌, ◌≤◌, ◌<◌}
-use mathlib.Core.Path.{◌≡◌, refl, sym, ◌∙◌}
+use mathlib.Core.Path.{◌≡◌, sym, ◌∙◌}
 use mathlib.Core.List.{List}
-use mathlib.Core.Bool.{Bool, true, false, ◌&&◌, ◌||◌}
+use mathlib.Core.Bool.{true, false}
 use native.Mathlib.Omega.{arith}
-use lib.Dec.{ltb}
 use lib.ListN.{length, get_or}
-use borrow.Author.Tests.{ltb-true, ltb-false}
 use Rattle.base.specs.Limits.{BUILTIN_END, NEWLINE}
 use Rattle.base.specs.Inner.First.{first_from}
 use Rattle.base.proofs.Laws.First.{first_hit, first_miss, first_end}
-use Rattle.base.proofs.Laws.Tests.{by_bool, split, and_l, and_r}
+use Rattle.base.proofs.Laws.Tests.{split}
 use Rattle.class_records.specs.Records.{records, record_at, good_table, holder}
 use Rattle.md_meaning.specs.Text.{char_at, total}
 use Rattle.md_meaning.specs.Scan.{unclassed}
-use Rattle.md_rest.specs.Inner.Rest.{Past, Builtin, Stepped, Walked}
+use Rattle.md_rest.specs.Inner.Rest.{Past, Stepped, Walked}
 use Rattle.md_meaning.proofs.Laws.Scan.{get_d_any}
 use Rattle.md_rest.proofs.Laws.Rest.{first_passed, builtin_classed, holder_classed, held_classed, none_unclassed, newline_classed}
-
--- ---- characters from low to high
-or_no_l : (a b : Bool) → a || b ≡ false → a ≡ false
-or_no_l true b e = e
-or_no_l false b e = refl
-
-or_no_r : (a b : Bool) → a || b ≡ false → b ≡ false
-or_no_r true b e = absurd (no e)
-  where
-    no : true ≡ false → ⊥
-    no e = let z : ◌≡◌ {A = ℕ} 0 1 = cc in omega arith
-or_no_r false b e = e
-
-module _ (text : List ℕ) (low high from end : ℕ) where
-  pub past_start : from ≤ end → Past text low high from end from
-  past_start h =
-      record { begins = omega arith; ends = h; least = λ j a b. absurd (omega arith); most = λ j a b. absurd (omega arith) }
-
-  module _ (i : ℕ) (s : Past text low high from end i) (h : i < end) (l : end ≤ length text) where
-    pub past_more : (ltb (get_or text i 0) low || ltb high (get_or text i 0)) ≡ false → Past text low high from end (i + 1)
-    past_more e =
-        let d : get_or text i 0 ≡ char_at text i = get_d_any text i 0 NEWLINE (omega arith) in
-        let a : low ≤ char_at text i = rw d at (ltb-false (get_or text i 0) low (or_no_l (ltb (get_or text i 0) low) (ltb high (get_or text i 0)) e)) in
-        let z : char_at text i ≤ high = rw d at (ltb-false high (get_or text i 0) (or_no_r (ltb (get_or text i 0) low) (ltb high (get_or text i 0)) e)) in
-        record {
-          begins = omega (arith, s.begins);
-          ends = omega arith;
-          least = λ j k m. split j i (λ b. s.least j k b) (λ b. let q : j ≡ i = omega arith in rw q a);
-          most = λ j k m. split j i (λ b. s.most j k b) (λ b. let q : j ≡ i = omega arith in rw q z);
-        }
-
--- ---- characters of the built-in table
-module _ (text : List ℕ) (from : ℕ) where
-  pub builtin_start : (b : Bool) → Builtin b text from from
-  builtin_start b = record { each = λ e j a z. absurd (omega arith) }
-
-  pub builtin_more : (b : Bool) (i : ℕ) → Builtin b text from i → i < length text → Builtin (b && ltb (get_or text i 0) BUILTIN_END) text from (i + 1)
-  builtin_more b i s h =
-      record {
-        each = λ e j a z. split j i
-            (λ m. s.each (and_l b (ltb (get_or text i 0) BUILTIN_END) e) j a m)
-            (λ m. let q : j ≡ i = omega arith in
-            let d : get_or text i 0 ≡ char_at text i = get_d_any text i 0 NEWLINE h in
-            let k : get_or text i 0 < BUILTIN_END = ltb-true (get_or text i 0) BUILTIN_END (and_r b (ltb (get_or text i 0) BUILTIN_END) e) in
-            rw (q, ← d) k);
-      }
-
-  pub builtin_end : (b : Bool) (i end : ℕ) → Builtin b text from i → end ≤ i → Builtin b text from end
-  builtin_end b i end s h = record { each = λ e j a z. s.each e j a (omega arith) }
 
 -- ---- characters that have a class
 module _ (classes text : List ℕ) (i end : ℕ) (h : i < end) (l : end ≤ length text) where

@@ -1,18 +1,18 @@
 -- The sum of the records' sizes, the characters that are scalar values, and the blocks of the built-in table: at the start, one step on and at the end.
 -- Assumes nothing.
-use Prim.Native.Nat.{ℕ, zero, suc, ◌+◌, ◌-◌, ◌≤◌, ◌<◌}
+use Prim.Native.Nat.{ℕ, ◌+◌, ◌-◌, ◌≤◌, ◌<◌}
 use mathlib.Core.Path.{◌≡◌, refl, sym, ◌∙◌}
 use mathlib.Core.List.{List}
-use mathlib.Core.Bool.{Bool, true, false, not, ◌&&◌, ◌||◌}
+use mathlib.Core.Bool.{Bool, true, false, ◌&&◌, ◌||◌}
 use native.Mathlib.Omega.{arith}
 use native.Mathlib.Numerals.{add-one}
 use lib.Dec.{leb, ltb}
 use lib.ListN.{length, get_or}
-use borrow.Author.Tests.{ltb-true, leb-true, le-leb, not-false}
-use Rattle.base.specs.Limits.{BUILTIN_END, LAST_POINT, SURROGATE_FIRST, SURROGATE_LAST, NEWLINE}
+use borrow.Author.Tests.{ltb-true, leb-true, le-leb}
+use Rattle.base.specs.Limits.{LAST_POINT, SURROGATE_FIRST, SURROGATE_LAST, NEWLINE}
 use Rattle.base.specs.Inner.First.{first_from}
-use Rattle.base.specs.Tests.{scalar, within}
-use Rattle.base.proofs.Laws.Tests.{by_bool, split, and_l, and_r, and_yes, or_l, within_below, within_above}
+use Rattle.base.specs.Tests.{scalar}
+use Rattle.base.proofs.Laws.Tests.{by_bool, split, and_l, and_r, and_yes, within_below, within_above}
 use Rattle.class_records.specs.Records.{records, record_at, good_table}
 use Rattle.md_meaning.specs.Text.{char_at, total}
 use Rattle.md_meaning.specs.Scan.{unclassed}
@@ -20,7 +20,7 @@ use Rattle.md_rest.specs.Inner.Rest.{Builtin}
 use Rattle.md_rest.specs.Inner.Whole.{PAST_BUILTIN, sizes_before, Valued, Classed, Passed}
 use Rattle.md_meaning.proofs.Laws.Scan.{get_d_any}
 use Rattle.md_rest.proofs.Laws.Rest.{first_passed, builtin_classed}
-use Rattle.md_rest.proofs.Laws.Whole.{past_records, sizes_fit, past_fit, whole_classed}
+use Rattle.md_rest.proofs.Laws.Whole.{sizes_fit, past_fit, whole_classed}
 use Rattle.md_rest.proofs.Loops.Rest.{rest_ended}
 
 -- ---- the sum of the sizes
@@ -61,9 +61,6 @@ value_is p e =
     value_high p (ltb-true _ _ (and_l _ (leb p LAST_POINT) r)) (leb-true _ _ (and_r (ltb SURROGATE_LAST p) _ r)))
 
 module _ (text : List ℕ) (from : ℕ) where
-  pub valued_start : (b : Bool) → Valued b text from from
-  valued_start b = record { each = λ e j a z. absurd (omega arith) }
-
   pub valued_more : (b : Bool) (i : ℕ) → Valued b text from i → i < length text → Valued (b && valued (get_or text i 0)) text from (i + 1)
   valued_more b i s h =
       record {
@@ -73,9 +70,6 @@ module _ (text : List ℕ) (from : ℕ) where
             let d : get_or text i 0 ≡ char_at text i = get_d_any text i 0 NEWLINE h in
             rw (q, ← d) (value_is (get_or text i 0) (and_r b (valued (get_or text i 0)) e)));
       }
-
-  pub valued_end : (b : Bool) (i end : ℕ) → Valued b text from i → end ≤ i → Valued b text from end
-  valued_end b i end s h = record { each = λ e j a z. s.each e j a (omega arith) }
 
 -- ---- what is known without a lookup
 module _ (t text : List ℕ) (from : ℕ) where

@@ -1,4 +1,4 @@
--- A walk that looks whether a number of a list is above m (`Looked`): its start, its step and its end.
+-- A walk that looks whether a number of a list is above m (`Looked`): its step and its end.
 -- Assumes nothing.
 use Prim.Native.Nat.{ℕ, ◌+◌, ◌≤◌, ◌<◌}
 use mathlib.Core.Path.{◌≡◌, refl, sym, ◌∙◌}
@@ -25,9 +25,6 @@ pub record Looked (list : List ℕ) (m : ℕ) (above : Bool) (k : ℕ) : Type 0 
   pub all : (above || any_above m (drop k list)) ≡ any_above m list
 
 module _ (list : List ℕ) (m : ℕ) where
-  pub looked_start : Looked list m false 0
-  looked_start = record { below = omega arith; all = refl }
-
   pub looked_more : {above : Bool} {k : ℕ} → Looked list m above k → k < length list → Looked list m (above || ltb m (get_or list k 0)) (k + 1)
   unfolding any_above
   looked_more {above} {k} g h =

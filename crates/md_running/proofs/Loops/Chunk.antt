@@ -1,23 +1,20 @@
 -- A chunk under way (`Chunking`): the state is that after i characters, and the first that is refused is still to be looked for from i on.
 -- Assumes nothing.
+use Rattle.std.specs.Prelude.{Ok, Err, Option, Some, None}
 use Prim.Native.Nat.{ℕ, ◌+◌, ◌≤◌, ◌<◌}
-use mathlib.Core.Path.{◌≡◌, refl, sym, ap, ◌∙◌}
+use mathlib.Core.Path.{◌≡◌, sym, ap, ◌∙◌}
 use mathlib.Core.Bool.{true, false}
 use mathlib.Core.List.{List}
 use native.Mathlib.Omega.{arith}
 use lib.ListN.{length, get_or}
-use Rattle.base.specs.declared.Cause.TheVariants.{Refused}
-use Rattle.base.specs.declared.Counted.TheVariants.{Count}
 use Rattle.base.specs.Inner.First.{first_from}
 use Rattle.base.specs.Limits.{NEWLINE}
-use Rattle.base.specs.Refusals.{UNCLASSED, BAD_STATE}
+use Rattle.base.specs.declared.refusals.Cause.TheVariants.{Unclassed, BadState}
 use Rattle.base.proofs.Laws.First.{first_start, first_hit, first_miss, first_end}
 use Rattle.classes.specs.declared.Class.{Class}
-use Rattle.classes.specs.declared.Found.{Found}
-use Rattle.classes.specs.declared.Found.TheVariants.{At, Nothing}
 use Rattle.classes.specs.Lookup.{class_of}
 use Rattle.classes.proofs.Laws.Lookup.{class_lawful}
-use Rattle.md_meaning.specs.Scan.{class_at, unclassed}
+use Rattle.md_meaning.specs.Scan.{class_at}
 use Rattle.md_meaning.proofs.Laws.Scan.{get_d_any, is_unclassed, is_classed}
 use Rattle.md_running_meaning.specs.declared.Running.{Running}
 use Rattle.md_running_meaning.specs.State.{unsound}
@@ -45,12 +42,12 @@ module _ (s : Running) (text classes pairs : List ℕ) where
 
   module _ {t : Running} {i : ℕ} (g : Chunking t i) where
     -- the class of the character at i: no newline stands within the text
-    class_here_lem : i < length text → (f : Found) → class_of classes (get_or text i 0) ≡ f → class_at classes text i ≡ f
+    class_here_lem : i < length text → (f : Option Class) → class_of classes (get_or text i 0) ≡ f → class_at classes text i ≡ f
     unfolding class_at
     class_here_lem h f e = ap (class_of classes) (get_d_any text i NEWLINE 0 h) ∙ e
 
     pub chunking_unsound : i < length text → unsound t ≡ true
-        → fed_unless (Refused (record { number = BAD_STATE; place = 0 })) s s 0
+        → fed_unless (Err (record { cause = BadState; place = 0 })) s s 0
         ≡ fed_unless (refused_within s text classes pairs) s (steps_at s text classes pairs (length text)) (s.received + length text)
     chunking_unsound h u =
         let v : unsound (steps_at s text classes pairs i) ≡ true = rw g.state at u in
@@ -62,16 +59,16 @@ module _ (s : Running) (text classes pairs : List ℕ) where
       sound_here : unsound (steps_at s text classes pairs i) ≡ false
       sound_here = rw g.state at u
 
-      pub chunking_unclassed : class_of classes (get_or text i 0) ≡ Nothing
-          → fed_unless (Refused (record { number = UNCLASSED; place = t.received })) s s 0
+      pub chunking_unclassed : class_of classes (get_or text i 0) ≡ None
+          → fed_unless (Err (record { cause = Unclassed; place = t.received })) s s 0
           ≡ fed_unless (refused_within s text classes pairs) s (steps_at s text classes pairs (length text)) (s.received + length text)
       chunking_unclassed n =
-          let m = is_unclassed classes text i (class_here_lem h Nothing n) in
+          let m = is_unclassed classes text i (class_here_lem h None n) in
           let e : halt s text classes pairs ≡ i =
           sym g.running ∙ first_hit (halts_at s text classes pairs) (length text) i h (halts_unclassed s text classes pairs i sound_here m) in
           fed_refused _ s _ _ _ (rw g.state (within_unclassed s text classes pairs i h e sound_here m))
 
-      module _ (c : Class) (n : class_of classes (get_or text i 0) ≡ At c) where
+      module _ (c : Class) (n : class_of classes (get_or text i 0) ≡ Some c) where
         pub chunking_taking : Chunk s text classes pairs → Taking t c pairs
         chunking_taking k =
             let a : t.received ≡ s.received + i = rw g.state (steps_received s text classes pairs i) in
@@ -89,15 +86,15 @@ module _ (s : Running) (text classes pairs : List ℕ) where
         chunking_more v e =
             record {
               below = omega arith;
-              state = e ∙ rw g.state (sym (steps_more s text classes pairs i c (class_here_lem h (At c) n)));
+              state = e ∙ rw g.state (sym (steps_more s text classes pairs i c (class_here_lem h (Some c) n)));
               running =
                   sym (first_miss (halts_at s text classes pairs) (length text) i h
-                  (halts_not s text classes pairs i sound_here (is_classed classes text i c (class_here_lem h (At c) n))))
+                  (halts_not s text classes pairs i sound_here (is_classed classes text i c (class_here_lem h (Some c) n))))
                   ∙ g.running;
             }
 
     pub chunking_end : length text ≤ i
-        → record { state = t; answer = Count t.received }
+        → record { state = t; answer = Ok t.received }
         ≡ fed_unless (refused_within s text classes pairs) s (steps_at s text classes pairs (length text)) (s.received + length text)
     chunking_end l =
         let e : i ≡ length text = omega (arith, l, g.below) in

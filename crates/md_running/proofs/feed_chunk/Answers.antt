@@ -4,12 +4,12 @@ use Rattle.md_running_meaning.proofs.Laws.Chunk.{chunk_refused, chunk_on, chunk_
 use Rattle.md_running.proofs.feed_chunk.Goals as goal
 
 pub feed_each-requires : goal.feed_each-requires
-feed_each-requires c = chunk_room _ _ _ _ (sym c.check_feed.ensures ∙ c.in-Allowed.is)
+feed_each-requires c = chunk_room _ _ _ _ (sym c.check_feed.ensures ∙ c.in-Ok.is)
 
-pub returns-in-Refused : goal.returns-in-Refused
-returns-in-Refused c =
-    c.unfed.ensures ∙ chunk_refused _ _ _ _ _ (sym c.check_feed.ensures ∙ c.in-Refused.is)
+pub returns-in-Err : goal.returns-in-Err
+returns-in-Err c =
+    c.unfed.ensures ∙ chunk_refused _ _ _ _ _ (sym c.check_feed.ensures ∙ c.in-Err.is)
 
-pub returns-in-Allowed : goal.returns-in-Allowed
-returns-in-Allowed c =
-    c.feed_each.ensures ∙ chunk_on _ _ _ _ (sym c.check_feed.ensures ∙ c.in-Allowed.is)
+pub returns-in-Ok : goal.returns-in-Ok
+returns-in-Ok c =
+    c.feed_each.ensures ∙ chunk_on _ _ _ _ (sym c.check_feed.ensures ∙ c.in-Ok.is)

@@ -2,6 +2,7 @@
 -- the call behind the checks (`chunk_refused`, `chunk_on`, `chunk_room`); and for readers, that an accepted chunk leaves what its characters leave one by one, each
 -- single call being accepted (`chunk_one_by_one`, `chunk_each`), and a refused one the state given (`chunk_stays`).
 -- Assumes nothing.
+use Rattle.std.specs.Prelude.{Result, Ok, Err, Some, ⊤}
 use Prim.Native.Nat.{ℕ, zero, suc, ◌+◌, ◌-◌, ◌≤◌, ◌<◌}
 use mathlib.Core.Path.{◌≡◌, refl, sym, ap, ◌∙◌}
 use mathlib.Core.Bool.{Bool, true, false, cond, ◌||◌, true≢false}
@@ -12,19 +13,15 @@ use native.Mathlib.Omega.{arith}
 use lib.Dec.{ltb}
 use lib.ListN.{length}
 use borrow.Author.Tests.{lt-ltb, le-ltb}
-use Rattle.base.specs.declared.Cause.{Cause}
-use Rattle.base.specs.declared.Cause.TheVariants.{Allowed, Refused}
-use Rattle.base.specs.declared.Counted.TheVariants.{Count, Refused as NotCounted}
 use Rattle.base.specs.declared.Refusal.{Refusal}
 use Rattle.base.specs.Causes.{refused_at, given}
 use Rattle.base.specs.First.{first}
-use Rattle.base.specs.Refusals.{UNCLASSED, BAD_STATE}
+use Rattle.base.specs.declared.refusals.Cause.TheVariants.{Unclassed, BadState}
 use Rattle.base.proofs.Laws.Causes.{first_one, first_refused, first_on, first_free, first_front, first_past, given_free}
 use Rattle.base.proofs.Laws.Counted.{not_counted}
 use Rattle.base.proofs.Laws.First.{first_before, first_found}
 use Rattle.base.proofs.Laws.Tests.{by_bool, split}
 use Rattle.classes.specs.declared.Class.{Class}
-use Rattle.classes.specs.declared.Found.TheVariants.{At}
 use Rattle.classes.specs.Check.{bad_classes}
 use Rattle.classes.specs.Lookup.{class_of, missing}
 use Rattle.classes.specs.Pairs.{bad_pairs}
@@ -68,7 +65,7 @@ module _ (s : Running) (text classes pairs : List ℕ) where
   unfolding steps_at
   steps_start = refl
 
-  pub steps_more : (i : ℕ) (c : Class) → class_at classes text i ≡ At c → at (i + 1) ≡ step pairs (at i) c
+  pub steps_more : (i : ℕ) (c : Class) → class_at classes text i ≡ Some c → at (i + 1) ≡ step pairs (at i) c
   unfolding steps_at
   steps_more i c e = ap at (add-one i) ∙ rw e
 
@@ -96,18 +93,18 @@ module _ (s : Running) (text classes pairs : List ℕ) where
   halts_not i e f = rw (e, f)
 
   pub within_unsound : (i : ℕ) → i < length text → halt s text classes pairs ≡ i → unsound (at i) ≡ true
-      → refused_within s text classes pairs ≡ Refused (record { number = BAD_STATE; place = 0 })
+      → refused_within s text classes pairs ≡ Err (record { cause = BadState; place = 0 })
   unfolding refused_within refusal_at refused_at
   within_unsound i h e u = rw (e, lt-ltb i (length text) h) (first_refused _ (bad_state (at i)) _ (unsound_bad (at i) u))
 
   pub within_unclassed : (i : ℕ) → i < length text → halt s text classes pairs ≡ i → unsound (at i) ≡ false → unclassed classes text i ≡ true
-      → refused_within s text classes pairs ≡ Refused (record { number = UNCLASSED; place = (at i).received })
+      → refused_within s text classes pairs ≡ Err (record { cause = Unclassed; place = (at i).received })
   unfolding refused_within refusal_at refused_at given
   within_unclassed i h e u m =
       rw (e, lt-ltb i (length text) h)
-      (first_on _ (bad_state (at i)) (sound_good (at i) u) ∙ first_one _ ∙ rw m (ap (λ (n : ℕ). Refused (record { number = UNCLASSED; place = n })) (sym (steps_received i))))
+      (first_on _ (bad_state (at i)) (sound_good (at i) u) ∙ first_one _ ∙ rw m (ap (λ (n : ℕ). Err (record { cause = Unclassed; place = n })) (sym (steps_received i))))
 
-  pub within_none : halt s text classes pairs ≡ length text → refused_within s text classes pairs ≡ Allowed
+  pub within_none : halt s text classes pairs ≡ length text → refused_within s text classes pairs ≡ Ok tt
   unfolding refused_within
   within_none e = rw (e, le-ltb (length text) (length text) (omega arith))
 
@@ -115,23 +112,23 @@ module _ (s : Running) (text classes pairs : List ℕ) where
   abbrev next : Running
   next = at (length text)
 
-  pub chunk_refused : (r : Refusal) → bad_call s (length text) classes pairs ≡ Refused r → fed_unless (Refused r) s s 0 ≡ feed_chunk s text classes pairs
+  pub chunk_refused : (r : Refusal) → bad_call s (length text) classes pairs ≡ Err r → fed_unless (Err r) s s 0 ≡ feed_chunk s text classes pairs
   unfolding feed_chunk chunk_causes bad_call
   chunk_refused r e =
       fed_refused _ s next (s.received + length text) r
       (first_front (bad_state s ∷ line_full s (length text) ∷ bad_classes classes ∷ bad_pairs pairs ∷ []) (refused_within s text classes pairs ∷ []) r e)
 
-  causes_within : bad_call s (length text) classes pairs ≡ Allowed → chunk_causes s text classes pairs ≡ refused_within s text classes pairs
+  causes_within : bad_call s (length text) classes pairs ≡ Ok tt → chunk_causes s text classes pairs ≡ refused_within s text classes pairs
   unfolding chunk_causes bad_call
   causes_within e =
       first_past (bad_state s ∷ line_full s (length text) ∷ bad_classes classes ∷ bad_pairs pairs ∷ []) (refused_within s text classes pairs ∷ []) e ∙ first_one _
 
-  pub chunk_on : bad_call s (length text) classes pairs ≡ Allowed
+  pub chunk_on : bad_call s (length text) classes pairs ≡ Ok tt
       → fed_unless (refused_within s text classes pairs) s next (s.received + length text) ≡ feed_chunk s text classes pairs
   unfolding feed_chunk
-  chunk_on e = ap (λ (c : Cause). fed_unless c s next (s.received + length text)) (sym (causes_within e))
+  chunk_on e = ap (λ (c : Result ⊤ Refusal). fed_unless c s next (s.received + length text)) (sym (causes_within e))
 
-  pub chunk_room : bad_call s (length text) classes pairs ≡ Allowed → Chunk s text classes pairs
+  pub chunk_room : bad_call s (length text) classes pairs ≡ Ok tt → Chunk s text classes pairs
   chunk_room e =
       let p = free_call s (length text) classes pairs e in
       let d = p.sound.declared in
@@ -139,11 +136,11 @@ module _ (s : Running) (text classes pairs : List ℕ) where
       record { left = omega (arith, d, r); short = p.sound.short; tables = p.tables }
 
   -- ---- for readers
-  pub chunk_stays : (r : Refusal) → (feed_chunk s text classes pairs).answer ≡ NotCounted r → (feed_chunk s text classes pairs).state ≡ s
+  pub chunk_stays : (r : Refusal) → (feed_chunk s text classes pairs).answer ≡ Err r → (feed_chunk s text classes pairs).state ≡ s
   unfolding feed_chunk fed_unless state_unless
   chunk_stays r e = rw (not_counted (chunk_causes s text classes pairs) _ r e)
 
-  free_before : chunk_causes s text classes pairs ≡ Allowed → bad_call s (length text) classes pairs ≡ Allowed
+  free_before : chunk_causes s text classes pairs ≡ Ok tt → bad_call s (length text) classes pairs ≡ Ok tt
   unfolding chunk_causes bad_call
   free_before e =
       let a = first_free (bad_state s) _ e in
@@ -153,16 +150,16 @@ module _ (s : Running) (text classes pairs : List ℕ) where
       first_on _ (bad_state s) a.0 ∙ first_on _ (line_full s (length text)) b.0 ∙ first_on _ (bad_classes classes) c.0 ∙ first_one _ ∙ d.0
 
   -- where nothing is refused within, the first that is refused is none
-  halt_free : refused_within s text classes pairs ≡ Allowed → halt s text classes pairs < length text
+  halt_free : refused_within s text classes pairs ≡ Ok tt → halt s text classes pairs < length text
       → halts_at s text classes pairs (halt s text classes pairs) ≡ false
   unfolding refused_within refusal_at
   halt_free e l =
-      let f : refusal_at s text classes pairs (halt s text classes pairs) ≡ Allowed = rw (lt-ltb (halt s text classes pairs) (length text) l) at e in
+      let f : refusal_at s text classes pairs (halt s text classes pairs) ≡ (Ok tt) = rw (lt-ltb (halt s text classes pairs) (length text) l) at e in
       let a = first_free (bad_state (at (halt s text classes pairs))) _ f in
-      let b = first_free (given (unclassed classes text (halt s text classes pairs)) UNCLASSED (s.received + halt s text classes pairs)) [] a.1 in
-      halts_not (halt s text classes pairs) (free_unsound _ a.0) (given_free _ UNCLASSED _ b.0)
+      let b = first_free (given (unclassed classes text (halt s text classes pairs)) Unclassed (s.received + halt s text classes pairs)) [] a.1 in
+      halts_not (halt s text classes pairs) (free_unsound _ a.0) (given_free _ Unclassed _ b.0)
 
-  module _ (e : chunk_causes s text classes pairs ≡ Allowed) where
+  module _ (e : chunk_causes s text classes pairs ≡ Ok tt) where
     -- no character is refused
     none_halts : (k : ℕ) → k < length text → halts_at s text classes pairs k ≡ false
     none_halts k h =
@@ -172,7 +169,7 @@ module _ (s : Running) (text classes pairs : List ℕ) where
         (λ l. first_before (halts_at s text classes pairs) (length text) k (omega arith))
 
     -- each single call is accepted, and leaves the chunk's next state
-    pub chunk_each : (k : ℕ) → k < length text → feed_causes (at k) (char_at text k) classes pairs ≡ Allowed
+    pub chunk_each : (k : ℕ) → k < length text → feed_causes (at k) (char_at text k) classes pairs ≡ Ok tt
     unfolding halts_at unclassed class_at
     chunk_each k h =
         let room = chunk_room (free_before e) in

@@ -1,6 +1,7 @@
 -- A line that is fed character by character from a fresh opening (Line): the state after k characters follows the scan (`line_follows`), each of its calls is
 -- accepted (`feeding_accepted`), and closing gives the whole call's answer (`line_whole`; `closing_whole` of a text that has no cause of refusal).
 -- Assumes nothing.
+use Rattle.std.specs.Prelude.{Ok, Option, Some, None}
 use Prim.Native.Nat.{ℕ, zero, suc, ◌+◌, ◌*◌, ◌≤◌, ◌<◌}
 use mathlib.Core.Path.{◌≡◌, refl, sym, ap, ◌∙◌}
 use mathlib.Core.Bool.{Bool, true, false, cond}
@@ -12,17 +13,14 @@ use lib.Ieee.{Float}
 use lib.Dec.{lit<}
 use lib.ListN.{length, get_or, get_or-eq_default}
 use borrow.Author.Tests.{lt-ltb, le-ltb, ltb-false}
-use Rattle.base.specs.declared.Cause.TheVariants.{Allowed}
 use Rattle.base.specs.Inner.All.{All}
 use Rattle.base.specs.First.{first}
 use Rattle.base.specs.Limits.{LONGEST_TEXT, LAST_RANGE, NEWLINE}
-use Rattle.base.specs.Refusals.{TOO_LONG}
+use Rattle.base.specs.declared.refusals.Cause.TheVariants.{TooLong}
 use Rattle.base.proofs.Laws.Causes.{first_free, given_free}
 use Rattle.base.proofs.Laws.First.{first_is, first_none}
 use Rattle.base.proofs.Laws.Tests.{by_bool, split}
 use Rattle.classes.specs.declared.Class.{Class}
-use Rattle.classes.specs.declared.Found.{Found}
-use Rattle.classes.specs.declared.Found.TheVariants.{At, Nothing}
 use Rattle.classes.specs.Inner.Tables.{Tables}
 use Rattle.classes.specs.Lookup.{builtin_class, class_of, missing}
 use Rattle.classes.proofs.Laws.Lookup.{class_builtin}
@@ -30,7 +28,6 @@ use Rattle.ratio.specs.Finite.{is_finite}
 use Rattle.md_eight.specs.declared.Detectors.{Detectors}
 use Rattle.md_eight.specs.Detectors.{feed, last_range}
 use Rattle.md_eight.proofs.Loops.Detectors.{Within}
-use Rattle.md_meaning.specs.declared.Limit.TheVariants.{Threshold}
 use Rattle.md_meaning.specs.Text.{char_at, total, checkpoint}
 use Rattle.md_meaning.specs.Scan.{fed, class_in, class_at, unclassed, state_at, stops, sum_of, reaches, scored, accepted_score}
 use Rattle.md_meaning.specs.Inner.Lent.{of_lent, bad_lent}
@@ -101,17 +98,17 @@ module _ (m k : ℕ) (s : Running) (w : Within m (eight_of s)) (l : m ≤ k) (f 
       and omega (arith, l, r.characters, r.total)
       and tt
 
-found_class : (p : ℕ) (f : Found) → missing f ≡ false → f ≡ At (class_in p f)
-found_class p (At c) e = refl
-found_class p Nothing e = let z : true ≡ false = e in bad z
+found_class : (p : ℕ) (f : Option Class) → missing f ≡ false → f ≡ Some (class_in p f)
+found_class p (Some c) e = refl
+found_class p None e = let z : true ≡ false = e in bad z
   where
-    bad : {f : Found} {c : Class} → true ≡ false → f ≡ At c
+    bad : {f : Option Class} {c : Class} → true ≡ false → f ≡ Some c
     bad z = cc
 
 module _ (text : List ℕ) (most : Float) (classes pairs : List ℕ) where
   -- the scan stops after the character at i
   abbrev halts : ℕ → Bool
-  halts = stops classes pairs text (Threshold most)
+  halts = stops classes pairs text (Some most)
 
   -- what an opening that is accepted has
   record Openable : Type 0 where
@@ -163,7 +160,7 @@ module _ (text : List ℕ) (most : Float) (classes pairs : List ℕ) where
         }
 
     -- ---- one character more
-    module _ (k : ℕ) (s : Running) (g : Follows text most classes pairs k s) (c : Class) (e : class_at classes text k ≡ At c) where
+    module _ (k : ℕ) (s : Running) (g : Follows text most classes pairs k s) (c : Class) (e : class_at classes text k ≡ Some c) where
       module _ (p : Going text most classes pairs k s) where
         next_watched : watched_next pairs s.watched c (s.received + 1) ≡ watched_at classes pairs text (k + 1)
         next_watched = rw (p.watched, g.received) (sym (watched_more classes pairs text k c e))
@@ -240,7 +237,7 @@ module _ (text : List ℕ) (most : Float) (classes pairs : List ℕ) where
     line_more k = ap (line_at text most classes pairs) (add-one k)
 
     module _ (k : ℕ) (s : Running) (g : Follows text most classes pairs k s) (h : k < length text) (m : unclassed classes text k ≡ false) where
-      accepted : feed_causes s (char_at text k) classes pairs ≡ Allowed
+      accepted : feed_causes s (char_at text k) classes pairs ≡ Ok tt
       unfolding unclassed class_at
       accepted =
           accepted_free s (char_at text k) classes pairs (follows_sound k s g (omega arith))
@@ -262,14 +259,14 @@ module _ (text : List ℕ) (most : Float) (classes pairs : List ℕ) where
         (feed_follows k (line_at text most classes pairs k) (follows k (omega arith) (λ i l. m i (omega arith))) (omega arith) (m k (omega arith)))
 
     fed_accepted : (k : ℕ) → k < length text → ((i : ℕ) → i < k + 1 → unclassed classes text i ≡ false)
-        → feed_causes (line_at text most classes pairs k) (char_at text k) classes pairs ≡ Allowed
+        → feed_causes (line_at text most classes pairs k) (char_at text k) classes pairs ≡ Ok tt
     fed_accepted k h m =
         accepted k (line_at text most classes pairs k) (follows k (omega arith) (λ i l. m i (omega arith))) h (m k (omega arith))
 
     -- ---- the end
     module _ (s : Running) (g : Follows text most classes pairs (length text) s) where
       -- behind the text stands the newline
-      newline_last : class_at classes text (length text) ≡ At (builtin_class NEWLINE)
+      newline_last : class_at classes text (length text) ≡ Some (builtin_class NEWLINE)
       unfolding class_at
       newline_last = rw (get_or-eq_default text NEWLINE {n = length text} (omega arith)) (class_builtin classes NEWLINE (lit< tt))
 
@@ -290,7 +287,7 @@ module _ (text : List ℕ) (most : Float) (classes pairs : List ℕ) where
         none_before : (j : ℕ) → j < length text → halts j ≡ false
         none_before = p.none
 
-        going_whole : scored (ended s) (s.length + 1) (stops_at s (ended s) s.length) ≡ accepted_score classes pairs text (Threshold most)
+        going_whole : scored (ended s) (s.length + 1) (stops_at s (ended s) s.length) ≡ accepted_score classes pairs text (Some most)
         unfolding accepted_score
         going_whole =
             rw (ended_stops, ended_eight, g.declared)
@@ -301,25 +298,25 @@ module _ (text : List ℕ) (most : Float) (classes pairs : List ℕ) where
             rw (t) (sym (rw (n, le-ltb (total text) (total text) (omega arith))))))
 
       over_whole : (i : ℕ) (p : Stopped text most classes pairs i (length text) s)
-          → scored (eight_of s) s.fed true ≡ accepted_score classes pairs text (Threshold most)
+          → scored (eight_of s) s.fed true ≡ accepted_score classes pairs text (Some most)
       unfolding accepted_score
       over_whole i p =
           let b = p.before in
           let n = first_is halts (total text) i (omega arith) p.here p.none in
           rw (p.eight, p.fed) (sym (rw (n, lt-ltb i (total text) (omega arith))))
 
-      closed_whole : Phase text most classes pairs (length text) s → close_line s ≡ accepted_score classes pairs text (Threshold most)
+      closed_whole : Phase text most classes pairs (length text) s → close_line s ≡ accepted_score classes pairs text (Some most)
       closed_whole (going p) =
           sym (close_on s (sound_free s (follows_sound (length text) s g (omega arith)))) ∙ sym (close_ended s received_all p.stopped) ∙ going_whole p
       closed_whole (over i p) =
           sym (close_on s (sound_free s (follows_sound (length text) s g (omega arith)))) ∙ sym (close_stopped s received_all p.stopped) ∙ over_whole i p
 
-  openable : open_causes (length text) most classes pairs ≡ Allowed → Openable
+  openable : open_causes (length text) most classes pairs ≡ Ok tt → Openable
   unfolding open_causes long_line bad_lent
   openable e =
       let a = first_free (long_line (length text)) (of_lent most classes pairs) e in
       let l = free_lent classes pairs most a.1 in
-      record { short = ltb-false LONGEST_TEXT (length text) (given_free _ TOO_LONG 0 a.0); finite = l.0; tables = l.1 }
+      record { short = ltb-false LONGEST_TEXT (length text) (given_free _ TooLong 0 a.0); finite = l.0; tables = l.1 }
 
   -- closing gives the whole call's answer
   pub closing_whole : Faultless text most classes pairs → close_line (line_at text most classes pairs (length text)) ≡ mess_ratio text most classes pairs
@@ -329,13 +326,13 @@ module _ (text : List ℕ) (most : Float) (classes pairs : List ℕ) where
       closed_whole o (line_at text most classes pairs (length text)) g g.phase ∙ sym (faultless_scored text most classes pairs f)
 
   -- ---- for readers: from an opening that is accepted on
-  module _ (opened : open_causes (length text) most classes pairs ≡ Allowed) where
+  module _ (opened : open_causes (length text) most classes pairs ≡ Ok tt) where
     pub line_follows : (k : ℕ) → k ≤ length text → ((i : ℕ) → i < k → unclassed classes text i ≡ false)
         → Follows text most classes pairs k (line_at text most classes pairs k)
     line_follows k h m = follows (openable opened) k h m
 
     pub feeding_accepted : (k : ℕ) → k < length text → ((i : ℕ) → i < k + 1 → unclassed classes text i ≡ false)
-        → feed_causes (line_at text most classes pairs k) (char_at text k) classes pairs ≡ Allowed
+        → feed_causes (line_at text most classes pairs k) (char_at text k) classes pairs ≡ Ok tt
     feeding_accepted k h m = fed_accepted (openable opened) k h m
 
     -- "For a text with every character classed, fed in full from a fresh opening with the same tables each time, the result equals the whole call"

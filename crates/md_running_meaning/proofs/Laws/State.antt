@@ -1,6 +1,7 @@
 -- Which states are refused by 19: one law for each way in which the test returns (`not_finite_lem`, `over_long`, `over_full`, `over_range`, `by_counts`);
 -- and what passed it (`free_sound`), and the other way round (`sound_free`).
 -- Assumes nothing.
+use Rattle.std.specs.Prelude.{Ok}
 use Prim.Native.Nat.{ℕ, zero, suc, ◌*◌, ◌≤◌, ◌<◌}
 use mathlib.Core.Path.{◌≡◌, refl}
 use mathlib.Core.Bool.{Bool, true, false, not, ◌||◌}
@@ -10,10 +11,9 @@ use native.Mathlib.Omega.{arith}
 use lib.Dec.{ltb}
 use lib.ListN.{length, get_or}
 use borrow.Author.Tests.{lt-ltb, le-ltb, ltb-false, not-false}
-use Rattle.base.specs.declared.Cause.TheVariants.{Allowed}
 use Rattle.base.specs.Causes.{refused_at}
 use Rattle.base.specs.Limits.{LONGEST_TEXT, LAST_RANGE}
-use Rattle.base.specs.Refusals.{BAD_STATE}
+use Rattle.base.specs.declared.refusals.Cause.TheVariants.{BadState}
 use Rattle.base.proofs.Laws.Causes.{given_yes, given_free, free_given}
 use Rattle.ratio.specs.Finite.{is_finite}
 use Rattle.md_eight.specs.Detectors.{last_range}
@@ -71,13 +71,13 @@ module _ (s : Running) where
         unfolding unsound
         by_counts h = rw (f, le-ltb _ _ g, le-ltb _ _ d, le-ltb _ _ h)
 
-  pub unsound_bad : unsound s ≡ true → bad_state s ≡ refused_at BAD_STATE 0
+  pub unsound_bad : unsound s ≡ true → bad_state s ≡ refused_at BadState 0
   unfolding bad_state
-  unsound_bad e = given_yes _ BAD_STATE 0 e
+  unsound_bad e = given_yes _ BadState 0 e
 
-  pub sound_good : unsound s ≡ false → bad_state s ≡ Allowed
+  pub sound_good : unsound s ≡ false → bad_state s ≡ Ok tt
   unfolding bad_state
-  sound_good e = free_given _ BAD_STATE 0 e
+  sound_good e = free_given _ BadState 0 e
 
   -- the five tests, from the last one
   abbrev from_counts : Bool
@@ -112,12 +112,12 @@ module _ (s : Running) where
       rw (p.finite, le-ltb LONGEST_TEXT s.length p.short, le-ltb s.length s.received p.declared, le-ltb LAST_RANGE (last_range (eight_of s)) p.range)
       (each_below (TWICE * s.received) (counts_in s) p.counts)
 
-  pub free_unsound : bad_state s ≡ Allowed → unsound s ≡ false
+  pub free_unsound : bad_state s ≡ Ok tt → unsound s ≡ false
   unfolding bad_state
-  free_unsound e = given_free _ BAD_STATE 0 e
+  free_unsound e = given_free _ BadState 0 e
 
-  pub free_sound : bad_state s ≡ Allowed → Sound s
+  pub free_sound : bad_state s ≡ Ok tt → Sound s
   free_sound e = sound_of (free_unsound e)
 
-  pub sound_free : Sound s → bad_state s ≡ Allowed
+  pub sound_free : Sound s → bad_state s ≡ Ok tt
   sound_free p = sound_good (of_sound p)

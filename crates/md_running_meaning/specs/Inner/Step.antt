@@ -1,7 +1,7 @@
 -- Words of inner contracts, beside Feeding: `HasRoom`, `Taking`, `bad_call`. No public promise rests on them.
 -- Assumes nothing.
-use Rattle.std.specs.Prelude.{ℕ, ◌≤◌, ◌<◌, ◌≡◌, List, ◌∷◌, length}
-use Rattle.base.specs.declared.Cause.{Cause}
+use Rattle.std.specs.Prelude.{ℕ, ◌≤◌, ◌<◌, ◌≡◌, List, ◌∷◌, length, Result, ⊤}
+use Rattle.base.specs.declared.Refusal.{Refusal}
 use Rattle.base.specs.Causes.{first_of}
 use Rattle.base.specs.Limits.{LONGEST_TEXT, LAST_RANGE, PAIR_BYTES}
 use Rattle.classes.specs.declared.Class.{Class}
@@ -24,5 +24,5 @@ pub record Taking (s : Running) (c : Class) (pairs : List ℕ) : Type 0 where
   pub range : c.range ≤ LAST_RANGE
 
 -- 19, 13, 5, 7
-unfoldable pub bad_call : Running → ℕ → List ℕ → List ℕ → Cause
+unfoldable pub bad_call : Running → ℕ → List ℕ → List ℕ → Result ⊤ Refusal
 bad_call s n classes pairs = first_of (bad_state s ∷ line_full s n ∷ of_tables classes pairs)

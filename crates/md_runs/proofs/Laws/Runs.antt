@@ -1,6 +1,7 @@
 -- Characters of one kind in a row, fed at once, come to the state that the definition reaches one by one (`cased_run_lem`, `uncased_run_lem`), by induction over their
 -- number; and each step of the scan that feeds a run or a single character has advanced (`Advanced`).
 -- Assumes nothing.
+use Rattle.std.specs.Prelude.{Some, None}
 use Rattle.std.proofs.Common.{
   ◌≡◌,
   ℕ,
@@ -40,7 +41,6 @@ use Rattle.base.proofs.Laws.Tests.{split, and_l, and_r, within_lo, within_hi}
 use Rattle.class_records.specs.declared.Record.{Record}
 use Rattle.class_records.specs.Records.{records, record_at, holder}
 use Rattle.classes.specs.declared.Class.{Class}
-use Rattle.classes.specs.declared.Found.TheVariants.{At, Nothing}
 use Rattle.classes.specs.Inner.Tables.{Tables}
 use Rattle.classes.specs.Lookup.{or_self, record_class}
 use Rattle.classes.specs.Pairs.{suspicious}
@@ -55,8 +55,8 @@ use Rattle.md_eight.proofs.Laws.Runs.{cased_one, cased_more, cased_last, uncased
 use Rattle.md_eight.proofs.Laws.Runs.{space_any}
 use Rattle.md_runs.specs.declared.Alike.{Alike}
 use Rattle.md_runs.specs.declared.Fed.{Fed}
-use Rattle.md_meaning.specs.Text.{char_at, total, checkpoint}
-use Rattle.md_meaning.specs.Scan.{fed, class_in, class_at, unclassed, state_at}
+use Rattle.md_meaning.specs.Text.{char_at, checkpoint}
+use Rattle.md_meaning.specs.Scan.{fed, class_in, class_at, state_at}
 use Rattle.md_rest.specs.Inner.Rest.{Past}
 use Rattle.md_text.specs.Inner.Pieces.{Piece}
 use Rattle.md_runs.specs.Inner.Runs.{Run, Low, High, HeldAt, Lent, AlikeOf, Spaced, Before, Advanced}
@@ -215,7 +215,7 @@ module _ (classes pairs text : List ℕ) where
       ∙ one_more i k (uncased_run (after i) (at i) (k + 1) (at (i + k)).point x y) a
       (uncased_run_lem i k (fewer i k a) e) (uncased_last (after i) (at i) (k + 1) (at (i + k)).point x y))
 
-  at_is : (j : ℕ) (x : Class) → class_at classes text j ≡ At x → at j ≡ x
+  at_is : (j : ℕ) (x : Class) → class_at classes text j ≡ Some x → at j ≡ x
   at_is j x e = rw e
 
 cased_class : (s : Detectors) (c d : Class) (m p b : ℕ) (x y : Bool) → c.flags ≡ d.flags → c.range ≡ d.range → cased_run s c m p b x y ≡ cased_run s d m p b x y
@@ -262,10 +262,10 @@ module _ (classes pairs text : List ℕ) (s : Detectors) (c : Class) (i : ℕ) (
       (λ l. l)
       (λ l. absurd (never (sym (lent_none classes c.point l) ∙ sym (class_lent classes c.point h) ∙ rw (← before_point) at b.class)))
     where
-      never : Nothing ≡ At c → ⊥
+      never : None ≡ Some c → ⊥
       never e = no (told e)
         where
-          told : Nothing ≡ At c → ◌≡◌ {A = ℕ} 0 1
+          told : None ≡ Some c → ◌≡◌ {A = ℕ} 0 1
           told e = cc
 
           no : ◌≡◌ {A = ℕ} 0 1 → ⊥
@@ -288,7 +288,7 @@ module _ (classes pairs text : List ℕ) (s : Detectors) (c : Class) (i : ℕ) (
 
   -- a run, each character of which has the class k gives it
   module _ (k : ℕ → Class) (m next : ℕ) (z : i + m + 1 ≡ next)
-      (found : (j : ℕ) → i ≤ j → j < next → class_at classes text j ≡ At (k j))
+      (found : (j : ℕ) → i ≤ j → j < next → class_at classes text j ≡ Some (k j))
       (flags : (j : ℕ) → (k j).flags ≡ (k i).flags)
       (range : (j : ℕ) → (k j).range ≡ (k i).range)
       (right : (j : ℕ) → i ≤ j → j < next → wrong_stop (k j).point ≡ false)
@@ -364,7 +364,7 @@ module _ (classes pairs text : List ℕ) (s : Detectors) (c : Class) (i : ℕ) (
       lower_step v x y ve xe ye t te =
           let d : get_or text (next - 1) 0 ≡ char_at text (next - 1) = get_d_any text (next - 1) 0 NEWLINE (omega (arith, w.begins, w.ends)) in
           advanced_cased (λ j. lower_class (char_at text j)) (next - i - 1) next (omega (arith, w.begins))
-          (λ j a z. class_builtin classes (char_at text j) (omega (arith, lower_to j a z)) ∙ ap At (lower_class_lem (char_at text j) (lower_from j a z) (lower_to j a z)))
+          (λ j a z. class_builtin classes (char_at text j) (omega (arith, lower_to j a z)) ∙ ap Some (lower_class_lem (char_at text j) (lower_from j a z) (lower_to j a z)))
           (λ j. refl)
           (λ j. refl)
           (λ j a z. lower_stop (char_at text j) (lower_from j a z) (lower_to j a z))
@@ -400,7 +400,7 @@ module _ (classes pairs text : List ℕ) (s : Detectors) (c : Class) (i : ℕ) (
         split i j (λ m. n.to (char_at text j) (w.most j m z))
         (λ m. let q : j ≡ i = omega (arith, a, m) in rw (q, ← before_point) (within_hi held.first _ _ (holder_holds classes c.point l.held)))
 
-    found : (j : ℕ) → i ≤ j → j < next → class_at classes text j ≡ At (record_class held (char_at text j))
+    found : (j : ℕ) → i ≤ j → j < next → class_at classes text j ≡ Some (record_class held (char_at text j))
     unfolding class_at
     found j a z = held_class classes l.good (char_at text j) (holder classes c.point) l.held (from j a z) (to j a z)
 
@@ -450,7 +450,7 @@ module _ (classes pairs text : List ℕ) (s : Detectors) (c : Class) (i : ℕ) (
   unfolding fed class_at
   advanced_space t p e =
       let q : char_at text i ≡ SPACE = sym before_point ∙ p in
-      let k : At c ≡ At space_class = sym b.class ∙ rw q (class_builtin classes SPACE (omega arith)) ∙ ap At space_class_lem in
+      let k : Some c ≡ Some space_class = sym b.class ∙ rw q (class_builtin classes SPACE (omega arith)) ∙ ap Some space_class_lem in
       let d : c ≡ space_class = cc in
       advanced_one t (e ∙ space_any s false (suspicious pairs (last_range s) c.range) ∙ rw d)
 
@@ -479,7 +479,7 @@ module _ (classes pairs text : List ℕ) (i : ℕ) (r : Fed) (g : Tables classes
         short = h;
         inside = omega (arith, p.inside);
         state = a.state;
-        class = rw p.space (class_builtin classes SPACE (omega arith) ∙ ap At space_class_lem);
+        class = rw p.space (class_builtin classes SPACE (omega arith) ∙ ap Some space_class_lem);
       }
 
   pub spaced_room : Room r.state

@@ -1,10 +1,9 @@
 -- Words of inner contracts: characters of one kind in a row that are fed at once. No public promise rests on them.
 -- Assumes nothing.
-use Rattle.std.specs.Prelude.{◌≡◌, ℕ, ◌+◌, ◌-◌, ◌<◌, ◌≤◌, true, false, List, length}
+use Rattle.std.specs.Prelude.{◌≡◌, ℕ, ◌+◌, ◌-◌, ◌<◌, ◌≤◌, true, false, List, length, Some}
 use Rattle.base.specs.Limits.{BUILTIN_END, LONGEST_TEXT}
 use Rattle.class_records.specs.Records.{records, record_at, good_table, holder}
 use Rattle.classes.specs.declared.Class.{Class}
-use Rattle.classes.specs.declared.Found.TheVariants.{At}
 use Rattle.classes.specs.Inner.Tables.{Tables}
 use Rattle.md_counts.specs.CjkInvalidStop.{wrong_stop, STOP_UP, STOP_DOWN}
 use Rattle.md_eight.specs.declared.Detectors.{Detectors}
@@ -61,7 +60,7 @@ pub record Before (classes pairs text : List ℕ) (s : Detectors) (c : Class) (i
   pub short : length text ≤ LONGEST_TEXT
   pub inside : i < total text
   pub state : s ≡ state_at classes pairs text i
-  pub class : class_at classes text i ≡ At c
+  pub class : class_at classes text i ≡ Some c
 
 -- after it: the state is that after the characters up to the next, which all have a class; the scan might have stopped after the last of them, not before
 pub record Advanced (classes pairs text : List ℕ) (i : ℕ) (r : Fed) : Type 0 where

@@ -1,19 +1,18 @@
 -- The eight after n characters: how large their counts can be (`eight_within`), so that ratios can be made of them (`eight_small`); and what the readers bring
 -- back is what weird words and archaic case count (`read-counts`, `read-case`).
 -- Assumes nothing.
-use Prim.Native.Nat.{ℕ, ◌+◌, ◌≤◌, ◌<◌}
-use mathlib.Core.Path.{◌≡◌, refl, sym, ap, ◌∙◌}
+use Prim.Native.Nat.{ℕ}
+use mathlib.Core.Path.{◌≡◌}
 use mathlib.Core.List.{List}
 use native.Mathlib.Omega.{arith}
 use Rattle.ratio.specs.Inner.Eight.{EachSmall}
-use Rattle.ratio.specs.declared.Counts.{Counts}
 use Rattle.md_words.specs.SuperWeirdWord as weird_words
 use Rattle.md_words.specs.ArchaicUpperLower as archaic
 use Rattle.md_eight.specs.Detectors.{counts}
 use Rattle.md_eight.proofs.Loops.Detectors.{Within, within_countable}
 use Rattle.md_second.specs.declared.readers.Reading.{Reading}
 use Rattle.md_second.specs.Inner.After.{words_after, archaic_after, eight_after}
-use Rattle.md_second.specs.Inner.Lists.{ROOM, Fits, Known}
+use Rattle.md_second.specs.Inner.Lists.{Known}
 use Rattle.md_second.specs.Inner.Listed.{Listed}
 use Rattle.md_second.specs.Inner.Reading.{weird, no_word, archaic_of, Read}
 use Rattle.md_second.proofs.Laws.Reading.{words_within, archaic_within}
@@ -36,19 +35,6 @@ module _ (points flags ranges bases pairs : List ℕ) (n : ℕ) where
 
   pub eight_small : Listed points flags ranges bases pairs n → EachSmall (counts (eight_after points flags ranges bases pairs n))
   eight_small l = within_countable n (eight_after points flags ranges bases pairs n) (eight_within l.known) (omega (arith, l.flags.room))
-
--- one character less is listed too
-pub listed_less : {p f r b q : List ℕ} {m : ℕ} → Listed p f r b q m → (n : ℕ) → 0 < n → n ≤ m → Listed p f r b q n
-listed_less l n s h =
-    record {
-      points = record { room = omega (arith, l.points.room); long = omega (arith, l.points.long) };
-      flags = record { room = omega (arith, l.flags.room); long = omega (arith, l.flags.long) };
-      ranges = record { room = omega (arith, l.ranges.room); long = omega (arith, l.ranges.long) };
-      bases = record { room = omega (arith, l.bases.room); long = omega (arith, l.bases.long) };
-      pairs = l.pairs;
-      known = λ j k. l.known j (omega arith);
-      some = s;
-    }
 
 module _ (flags : List ℕ) (n : ℕ) (r : Reading) (g : Read flags n r) where
   pub read_words_counts : weird_words.counts (weird r.words no_word) ≡ weird_words.counts (words_after flags n)

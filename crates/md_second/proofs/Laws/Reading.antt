@@ -2,9 +2,9 @@
 -- in a word it enters (`word_feed`), in a gap it closes the word that there is (`gap_feed`), and archaic case goes on (`case_feed`). Where no letter has
 -- entered a word, nothing of one is kept (`words_fresh`); so a gap closes a word once (`shut-twice`).
 -- Assumes nothing.
-use Prim.Native.Nat.{ℕ, zero, suc, ◌+◌, ◌≤◌, ◌<◌}
+use Prim.Native.Nat.{ℕ, zero, suc, ◌+◌}
 use mathlib.Core.Path.{◌≡◌, refl, sym, ap, ◌∙◌}
-use mathlib.Core.Bool.{Bool, true, false, cond, not, ◌&&◌, ◌||◌}
+use mathlib.Core.Bool.{Bool, true, false, not, ◌&&◌, ◌||◌}
 use mathlib.Core.List.{List}
 use native.Mathlib.Nat.{add-zero}
 use native.Mathlib.Numerals.{add-one}
@@ -12,11 +12,10 @@ use native.Mathlib.Omega.{arith}
 use lib.Dec.{eqb, ltb}
 use lib.ListN.{get_or}
 use borrow.Author.Tests.{eqb-true, ne_eqb, lt-ltb, not-true}
-use Rattle.base.specs.Flags.{has, ASCII_ALPHABETIC, ACCENTUATED, UPPERCASE}
-use Rattle.base.specs.Numbers.{bump}
+use Rattle.base.specs.Flags.{has, ASCII_ALPHABETIC}
 use Rattle.base.proofs.Laws.Tests.{cond_both, and_l, and_r}
 use Rattle.md_words.specs.declared.super_weird_word.SuperWeirdWord.{SuperWeirdWord}
-use Rattle.md_words.specs.SuperWeirdWord.{closes, counted, watched, letter, symbol, accented, capital, camel, long, close, inside, feed, start}
+use Rattle.md_words.specs.SuperWeirdWord.{closes, counted, letter, symbol, accented, capital, camel, long, close, inside, feed}
 use Rattle.md_words.specs.ArchaicUpperLower as archaic
 use Rattle.md_words.proofs.Laws.SuperWeirdWord as words_laws
 use Rattle.md_words.proofs.Laws.ArchaicUpperLower as archaic_laws
@@ -24,7 +23,7 @@ use Rattle.md_second.specs.declared.readers.Words.{Words}
 use Rattle.md_second.specs.declared.readers.Word.{Word}
 use Rattle.md_second.specs.declared.readers.Case.{Case}
 use Rattle.md_second.specs.Inner.After.{seen, words_after, archaic_after}
-use Rattle.md_second.specs.Inner.Reading.{no_word, no_words, weird, is_gap, odd_in, entered, closed, archaic_of, case_of, cased, shut}
+use Rattle.md_second.specs.Inner.Reading.{no_word, weird, is_gap, odd_in, entered, closed, archaic_of, cased, shut}
 
 -- the words of the definition's state
 abbrev words_of : SuperWeirdWord → Words

@@ -1,26 +1,23 @@
 -- The states by the lists are the scan's own (`eight_same`), and so the score by the lists is the scan's (`list_same`). Each detector reads of a character what
 -- its list has, and nothing else (`_reads`).
 -- Assumes nothing.
+use Rattle.std.specs.Prelude.{Option, Some, None}
 use Prim.Native.Nat.{ℕ, zero, suc, ◌+◌, ◌≤◌, ◌<◌}
 use mathlib.Core.Path.{◌≡◌, refl, sym, ap, ◌∙◌}
-use mathlib.Core.Bool.{Bool, true, false, cond, ◌&&◌}
+use mathlib.Core.Bool.{Bool, ◌&&◌}
 use mathlib.Core.List.{List}
-use native.Mathlib.Numerals.{add-one}
 use native.Mathlib.Omega.{arith}
-use lib.Dec.{ltb}
 use lib.Ieee.{Float, le}
 use lib.ListN.{length, get_or}
 use borrow.Author.Tests.{lt-ltb, le-ltb}
+use Rattle.base.specs.Causes.{refused_at}
 use Rattle.base.specs.First.{first}
 use Rattle.base.specs.Limits.{LAST_RANGE}
-use Rattle.base.specs.Refusals.{UNCLASSED}
+use Rattle.base.specs.declared.refusals.Cause.TheVariants.{Unclassed}
 use Rattle.base.proofs.Laws.Causes.{given_yes, free_given}
 use Rattle.base.proofs.Laws.First.{first_is, first_none, first_before, first_found, first_within}
 use Rattle.base.proofs.Laws.Tests.{split}
-use Rattle.class_records.specs.Records.{good_table}
 use Rattle.classes.specs.declared.Class.{Class}
-use Rattle.classes.specs.declared.Found.{Found}
-use Rattle.classes.specs.declared.Found.TheVariants.{At, Nothing}
 use Rattle.classes.specs.Inner.Tables.{Tables}
 use Rattle.classes.specs.Pairs.{suspicious}
 use Rattle.md_counts.specs.TooManySymbolOrPunctuation as symbols
@@ -31,18 +28,15 @@ use Rattle.md_neighbours.specs.SuspiciousRange as ranges_of
 use Rattle.md_neighbours.specs.SuspiciousDuplicateAccent as doubled
 use Rattle.md_words.specs.SuperWeirdWord as weird_words
 use Rattle.md_words.specs.ArchaicUpperLower as archaic
-use Rattle.md_eight.specs.declared.Detectors.{Detectors}
-use Rattle.md_eight.specs.Detectors.{start, feed, last_range}
-use Rattle.md_meaning.specs.declared.Limit.TheVariants.{Threshold}
-use Rattle.md_meaning.specs.declared.Scored.{Scored}
+use Rattle.md_eight.specs.Detectors.{start, feed}
 use Rattle.md_meaning.specs.Text.{char_at, total, checkpoint}
-use Rattle.md_meaning.specs.Scan.{fed, class_in, class_at, state_at, stops, sum_of, reaches, scored, accepted_score, no_class, first_unclassed, unclassed}
-use Rattle.md_meaning.specs.Inner.Scan.{refused, scan}
+use Rattle.md_meaning.specs.Scan.{fed, class_in, class_at, state_at, stops, sum_of, reaches, accepted_score, no_class, first_unclassed}
+use Rattle.md_meaning.specs.Inner.Scan.{scan}
 use Rattle.md_meaning.proofs.Laws.Scan.{class_range, unless_allowed, unless_at}
 use Rattle.md_second.specs.Second.{SECOND_LONGEST}
-use Rattle.md_second.specs.Inner.After.{seen, flagged, symbols_after, accents_after, unprintable_after, ranges_after, doubled_after, words_after, stops_after, archaic_after, eight_after}
-use Rattle.md_second.specs.Inner.Lists.{ROOM, class_here, point_at, flags_at, range_at, base_at, Fits, Known, Laid}
-use Rattle.md_second.specs.Inner.Listed.{Listed, stops_there, stop_there, list_score}
+use Rattle.md_second.specs.Inner.After.{seen, symbols_after, accents_after, unprintable_after, ranges_after, doubled_after, words_after, stops_after, archaic_after, eight_after}
+use Rattle.md_second.specs.Inner.Lists.{class_here, point_at, flags_at, range_at, base_at, Laid}
+use Rattle.md_second.specs.Inner.Listed.{Listed, stops_there, list_score}
 
 -- ---- what a detector reads of a character
 symbols_reads : (s : _) (c : Class) (p f : ℕ) → p ≡ c.point → f ≡ c.flags → symbols.feed s (seen p f 0 0) ≡ symbols.feed s c
@@ -87,9 +81,9 @@ first_same f g n e =
     z ∙ sym (first_none g n (λ j k. sym (e j k) ∙ first_before f n j (omega arith))))
 
 -- a class that was found has a range that the pair table knows, and 0 is one
-in_range : (q : ℕ) (x : Found) → ((c : Class) → x ≡ At c → c.range ≤ LAST_RANGE) → (class_in q x).range ≤ LAST_RANGE
-in_range q (At c) h = h c refl
-in_range q Nothing h = omega arith
+in_range : (q : ℕ) (x : Option Class) → ((c : Class) → x ≡ Some c → c.range ≤ LAST_RANGE) → (class_in q x).range ≤ LAST_RANGE
+in_range q (Some c) h = h c refl
+in_range q None h = omega arith
 
 module _ (classes pairs text points flags ranges bases : List ℕ)
     (p : Laid (point_at classes text) (total text) points) (f : Laid (flags_at classes text) (total text) flags)
@@ -120,17 +114,17 @@ module _ (classes pairs text points flags ranges bases : List ℕ)
 
   -- ---- the same stop, the same score
   stops_same : (threshold : Float) (i : ℕ) → i < total text
-      → stops_there points flags ranges bases pairs (length text) threshold i ≡ stops classes pairs text (Threshold threshold) i
+      → stops_there points flags ranges bases pairs (length text) threshold i ≡ stops classes pairs text (Some threshold) i
   unfolding stops_there stops reaches
   stops_same threshold i h = ap (λ s. checkpoint (length text) i && le threshold (sum_of s)) (eight_same (i + 1) (omega arith))
 
   pub list_same : (threshold : Float)
-      → list_score points flags ranges bases pairs (length text) threshold ≡ accepted_score classes pairs text (Threshold threshold)
+      → list_score points flags ranges bases pairs (length text) threshold ≡ accepted_score classes pairs text (Some threshold)
   unfolding list_score accepted_score
   list_same threshold =
-      let k = first_same (stops_there points flags ranges bases pairs (length text) threshold) (stops classes pairs text (Threshold threshold)) (total text)
+      let k = first_same (stops_there points flags ranges bases pairs (length text) threshold) (stops classes pairs text (Some threshold)) (total text)
       (stops_same threshold) in
-      let at = first (stops classes pairs text (Threshold threshold)) (total text) in
+      let at = first (stops classes pairs text (Some threshold)) (total text) in
       split at (total text)
       (λ l. simp (k, lt-ltb at (total text) l) (rw (eight_same (at + 1) (omega arith))))
       (λ l. simp (k, le-ltb at (total text) l) (rw (eight_same (total text) (omega arith))))
@@ -149,10 +143,10 @@ module _ (classes pairs text points flags ranges bases : List ℕ)
 
 -- ---- the first character that has no class
 module _ (classes pairs text : List ℕ) (threshold : Float) (bad : ℕ) (e : bad ≡ first_unclassed classes text) where
-  pub scan_classless : bad ≤ length text → refused UNCLASSED bad ≡ scan classes pairs text (Threshold threshold)
+  pub scan_classless : bad ≤ length text → refused_at Unclassed bad ≡ scan classes pairs text (Some threshold)
   unfolding scan no_class
-  scan_classless h = sym (unless_at _ _ UNCLASSED bad (rw (← e) (given_yes _ UNCLASSED bad (lt-ltb bad (total text) (omega arith)))))
+  scan_classless h = sym (unless_at _ _ Unclassed bad (rw (← e) (given_yes _ Unclassed bad (lt-ltb bad (total text) (omega arith)))))
 
-  pub scan_classed : length text < bad → accepted_score classes pairs text (Threshold threshold) ≡ scan classes pairs text (Threshold threshold)
+  pub scan_classed : length text < bad → accepted_score classes pairs text (Some threshold) ≡ scan classes pairs text (Some threshold)
   unfolding scan no_class
-  scan_classed h = sym (unless_allowed _ _ (rw (← e) (free_given _ UNCLASSED bad (le-ltb bad (total text) (omega arith)))))
+  scan_classed h = sym (unless_allowed _ _ (rw (← e) (free_given _ Unclassed bad (le-ltb bad (total text) (omega arith)))))

@@ -10,7 +10,6 @@ use borrow.Author.Tests.{lt-ltb, le-ltb}
 use Rattle.base.specs.First.{first}
 use Rattle.base.specs.Inner.First.{first_from}
 use Rattle.base.proofs.Laws.First.{first_start, first_hit, first_miss, first_end}
-use Rattle.md_meaning.specs.declared.Scored.{Scored}
 use Rattle.md_meaning.specs.Scan.{scored}
 use Rattle.md_second.specs.Inner.After.{eight_after}
 use Rattle.md_second.specs.Inner.Listed.{stops_there, list_score}

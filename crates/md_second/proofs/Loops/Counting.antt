@@ -2,13 +2,13 @@
 -- (`_start`); and what is left at the end is what the definition counts (`_end`).
 -- Assumes nothing.
 use Prim.Native.Nat.{ℕ, zero, suc, ◌+◌, ◌≤◌, ◌<◌}
-use mathlib.Core.Path.{◌≡◌, refl, sym, ap, ◌∙◌}
+use mathlib.Core.Path.{◌≡◌, refl, ◌∙◌}
 use mathlib.Core.Bool.{Bool, true, false, cond, not, ◌&&◌, ◌||◌}
 use mathlib.Core.List.{List}
 use native.Mathlib.Nat.{add-zero}
 use native.Mathlib.Numerals.{add-one}
 use native.Mathlib.Omega.{arith}
-use lib.Dec.{eqb, ltb}
+use lib.Dec.{eqb}
 use lib.ListN.{get_or}
 use Rattle.base.specs.Flags.{has, ALPHABETIC, ACCENTUATED, UPPERCASE, UNPRINTABLE, PUNCTUATION, CJK, LATIN}
 use Rattle.base.specs.Limits.{LAST_RANGE}
@@ -34,7 +34,7 @@ use Rattle.md_neighbours.proofs.Laws.SuspiciousRange as ranges_laws
 use Rattle.md_neighbours.proofs.Laws.SuspiciousDuplicateAccent as doubled_laws
 use Rattle.md_second.specs.Inner.After.{seen, flagged, is_mark, symbols_after, accents_after, unprintable_after, ranges_after, doubled_after, stops_after}
 use Rattle.md_second.specs.Inner.Lists.{Known}
-use Rattle.md_second.proofs.Loops.Upto.{Upto, upto_start, upto_more, upto_end}
+use Rattle.md_second.proofs.Loops.Upto.{Upto, upto_start, upto_more}
 
 -- ---- symbols
 abbrev pub symbols_of : ℕ → ℕ → ℕ → ℕ → TooManySymbolOrPunctuation

@@ -1,18 +1,15 @@
 -- The two readers under way. In a word (`Wording`) the definitions' states after i characters are the words that are closed, the word that is being read, and
--- archaic case; at a character of a gap the word reader hands over (`wording_gap`), at the end it brings its counts back (`wording_end`). In a gap (`Gapping`)
--- the first character has closed the word, and the others find none; at a character of a word the gap reader hands back (`gapping_word`).
--- A reader that hands over has read at least one character, since it was called with one of its own kind.
+-- archaic case. In a gap (`Gapping`) the first character has closed the word, and the others find none. A reader that hands over has read at least one
+-- character, since it was called with one of its own kind.
 -- Assumes nothing.
-use Prim.Native.Nat.{ℕ, zero, suc, ◌+◌, ◌≤◌, ◌<◌}
-use mathlib.Core.Path.{◌≡◌, refl, sym, ap, ◌∙◌}
-use mathlib.Core.Bool.{Bool, true, false}
+use Prim.Native.Nat.{ℕ, ◌+◌, ◌≤◌, ◌<◌}
+use mathlib.Core.Path.{◌≡◌, refl, ap, ◌∙◌}
+use mathlib.Core.Bool.{true, false}
 use mathlib.Core.List.{List}
 use native.Mathlib.Numerals.{add-one}
 use native.Mathlib.Omega.{arith}
 use lib.ListN.{get_or}
-use Rattle.base.proofs.Laws.Tests.{split}
 use Rattle.md_words.specs.declared.super_weird_word.SuperWeirdWord.{SuperWeirdWord}
-use Rattle.md_words.specs.declared.archaic_upper_lower.ArchaicUpperLower.{ArchaicUpperLower}
 use Rattle.md_words.specs.SuperWeirdWord as weird_words
 use Rattle.md_words.specs.ArchaicUpperLower as archaic
 use Rattle.md_words.proofs.Laws.SuperWeirdWord as words_laws
@@ -23,27 +20,12 @@ use Rattle.md_second.specs.declared.readers.Case.{Case}
 use Rattle.md_second.specs.declared.readers.Reading.{Reading}
 use Rattle.md_second.specs.Inner.After.{seen, words_after, archaic_after}
 use Rattle.md_second.specs.Inner.Lists.{ROOM, Fits}
-use Rattle.md_second.specs.Inner.Reading.{no_word, no_words, weird, is_gap, entered, closed, WordRoom, WordsRoom, archaic_of, cased, CaseRoom, shut, unread, ToWord, ToGap, Read}
+use Rattle.md_second.specs.Inner.Reading.{no_word, no_words, weird, is_gap, entered, WordRoom, WordsRoom, archaic_of, cased, CaseRoom, shut, unread, ToWord, ToGap}
 use Rattle.md_second.proofs.Laws.Reading.{words_fresh, words_within, archaic_within, word_feed, gap_feed, case_feed, shut_empty}
 
 -- what a reader hands over or brings back
 abbrev pub reading_of : Words → Case → Reading
 reading_of t c = record { words = t; case = c }
-
--- characters of other kinds stand in other places
-apart : (flags : List ℕ) (at i : ℕ) (b : Bool) → at ≤ i → is_gap (get_or flags at 0) ≡ b → (is_gap (get_or flags i 0) ≡ b → ⊥) → at < i
-apart flags at i b h e other =
-    split at i (λ l. l)
-    (λ l. let z : at ≡ i = omega arith in absurd (other (rw z at e)))
-
-differ_no : {b : Bool} → b ≡ true → b ≡ false → ⊥
-differ_no p q = no (told (sym p ∙ q))
-  where
-    told : true ≡ false → ◌≡◌ {A = ℕ} 0 1
-    told e = cc
-
-    no : ◌≡◌ {A = ℕ} 0 1 → ⊥
-    no z = omega arith
 
 module _ (flags : List ℕ) where
   words_more : (i : ℕ) (s : SuperWeirdWord) → words_after flags i ≡ s → words_after flags (i + 1) ≡ weird_words.feed s (seen 0 (get_or flags i 0) 0 0)
@@ -78,10 +60,6 @@ module _ (flags : List ℕ) where
       pub below : i ≤ n
       pub words : words_after flags i ≡ weird t w
       pub case : archaic_after flags i ≡ archaic_of i c
-
-    pub wording_start : (s : Reading) (w : Word) → ToWord flags n at s → w ≡ no_word → Wording s.words w s.case at
-    wording_start s w g e =
-        record { fits = g.fits; kind = g.kind; past = omega arith; below = omega (arith, g.below); words = rw e g.words; case = g.case }
 
     module _ {t : Words} {w : Word} {c : Case} {i : ℕ} (g : Wording t w c i) where
       wording_within : words_laws.Within i (weird t w)
@@ -124,29 +102,6 @@ module _ (flags : List ℕ) where
             case = rw q (case_more i c g.case);
           }
 
-      -- the boundary: at least one character was read, and the word is closed
-      pub wording_past : is_gap (get_or flags i 0) ≡ true → at < i
-      wording_past k = apart flags at i false g.past g.kind (λ e. differ_no k e)
-
-      pub wording_gap : {r : Words} → i < n → is_gap (get_or flags i 0) ≡ true → r ≡ closed t w → ToGap flags n i (reading_of r c)
-      wording_gap {r} h k e =
-          record { fits = g.fits; below = h; kind = k; words = rw e (ap shut g.words); case = g.case }
-
-      -- the end: a word that is open is not counted
-      pub wording_end : n ≤ i → Read flags n (reading_of t c)
-      wording_end h =
-          let e : i ≡ n = omega (arith, g.below) in
-          let k : words_after flags n ≡ weird t w = rw e at g.words in
-          let m : archaic_after flags n ≡ archaic_of n c = rw e at g.case in
-          record {
-            characters = sym (ap (λ s. s.characters) k);
-            words = sym (ap (λ s. s.words) k);
-            foreign = sym (ap (λ s. s.foreign) k);
-            spoilt = sym (ap (λ s. s.spoilt) k);
-            total = sym (ap (λ s. s.total) m);
-            fed = sym (ap (λ s. s.characters) m);
-          }
-
   -- ---- in a gap
   module _ (n at : ℕ) where
     pub record Gapping (t : Words) (c : Case) (i : ℕ) : Type 0 where
@@ -158,22 +113,6 @@ module _ (flags : List ℕ) where
       pub shuts : shut (words_after flags i) ≡ weird t no_word
       pub words : at < i → words_after flags i ≡ weird t no_word
       pub case : archaic_after flags i ≡ archaic_of i c
-
-    pub gapping_start : (s : Reading) → ToGap flags n at s → Gapping s.words s.case at
-    gapping_start s g =
-        record {
-          fits = g.fits;
-          kind = g.kind;
-          there = g.below;
-          past = omega arith;
-          below = omega (arith, g.below);
-          shuts = g.words;
-          words = λ l. absurd (no l);
-          case = g.case;
-        }
-      where
-        no : at < at → ⊥
-        no l = omega arith
 
     module _ {t : Words} {c : Case} {i : ℕ} (g : Gapping t c i) where
       pub gapping_case : CaseRoom c
@@ -193,26 +132,4 @@ module _ (flags : List ℕ) where
             shuts = ap shut e ∙ shut_empty t;
             words = λ l. e;
             case = rw q (case_more i c g.case);
-          }
-
-      -- the next word: at least one character was read
-      pub gapping_past : is_gap (get_or flags i 0) ≡ false → at < i
-      gapping_past k = apart flags at i true g.past g.kind (λ e. differ_no e k)
-
-      pub gapping_word : i < n → is_gap (get_or flags i 0) ≡ false → ToWord flags n i (reading_of t c)
-      gapping_word h k =
-          record { fits = g.fits; below = h; kind = k; words = g.words (gapping_past k); case = g.case }
-
-      pub gapping_end : n ≤ i → Read flags n (reading_of t c)
-      gapping_end h =
-          let e : i ≡ n = omega (arith, g.below) in
-          let k : words_after flags n ≡ weird t no_word = rw e at (g.words (omega (arith, g.there))) in
-          let m : archaic_after flags n ≡ archaic_of n c = rw e at g.case in
-          record {
-            characters = sym (ap (λ s. s.characters) k);
-            words = sym (ap (λ s. s.words) k);
-            foreign = sym (ap (λ s. s.foreign) k);
-            spoilt = sym (ap (λ s. s.spoilt) k);
-            total = sym (ap (λ s. s.total) m);
-            fed = sym (ap (λ s. s.characters) m);
           }

@@ -1,19 +1,19 @@
 -- Words of inner contracts: the scan over lists of what the characters are. `list_score` is the score by `eight_after`; that it is the scan's own is a law
 -- (proofs/Laws/Same). No public promise rests on them.
 -- Assumes nothing.
-use Rattle.std.specs.Prelude.{ℕ, ◌+◌, ◌≤◌, ◌<◌, ◌≡◌, Bool, true, false, cond, ◌&&◌, List, ltb, Float, length}
+use Rattle.std.specs.Prelude.{ℕ, ◌+◌, ◌≤◌, ◌<◌, ◌≡◌, Bool, true, false, cond, ◌&&◌, List, ltb, Float, length, Result, Ok}
 use Rattle.std.specs.Float.Ieee.{le}
+use Rattle.base.specs.declared.Refusal.{Refusal}
 use Rattle.base.specs.First.{first}
 use Rattle.base.specs.Limits.{PAIR_BYTES}
 use Rattle.ratio.specs.declared.EightCounts.{EightCounts}
 use Rattle.ratio.specs.Eight.{fractions_of, ratios, sum}
 use Rattle.ratio.specs.Shown.{eight_shown}
-use Rattle.md_meaning.specs.declared.Scored.{Scored}
-use Rattle.md_meaning.specs.declared.Scored.TheVariants.{Score}
 use Rattle.md_meaning.specs.Text.{period, checkpoint}
 use Rattle.md_meaning.specs.Scan.{scored, sum_of}
 use Rattle.md_second.specs.Inner.After.{eight_after}
 use Rattle.md_second.specs.Inner.Lists.{Fits, Known}
+use Rattle.md_meaning.specs.declared.Score.{Score}
 
 -- what `period_of` ensures: the period, and that it is no 0
 pub record Period (length r : ℕ) : Type 0 where
@@ -31,9 +31,9 @@ pub record Listed (p f r b q : List ℕ) (n : ℕ) : Type 0 where
   pub some : 0 < n
 
 -- the answer that counts make
-unfoldable pub answered : EightCounts → ℕ → Bool → Scored
+unfoldable pub answered : EightCounts → ℕ → Bool → Result Score Refusal
 answered c n early =
-    Score
+    Ok
     (record {
       ratios = ratios (fractions_of c);
       sum = sum (ratios (fractions_of c));
@@ -50,7 +50,7 @@ module _ (points flags ranges bases pairs : List ℕ) (size : ℕ) (threshold : 
   abbrev pub stop_there : ℕ
   stop_there = first stops_there (size + 1)
 
-  unfoldable pub list_score : Scored
+  unfoldable pub list_score : Result Score Refusal
   list_score =
       cond (ltb stop_there (size + 1))
       (scored (eight_after points flags ranges bases pairs (stop_there + 1)) (stop_there + 1) true)

@@ -2,6 +2,7 @@
 -- (`accepted_alike`), a line that stops early at the higher one does so at the lower (`stops_only_shrink`), and no line stops at a threshold above
 -- which no sum lies (`above_all`).
 -- Assumes nothing.
+use Rattle.std.specs.Prelude.{Result, Ok, Some}
 use Prim.Native.Nat.{ℕ, ◌+◌, ◌*◌, ◌≤◌, ◌<◌}
 use mathlib.Core.Path.{◌≡◌, refl, sym, ap, ◌∙◌}
 use mathlib.Core.Bool.{Bool, true, false, cond, not, ◌&&◌, ◌||◌, true≢false}
@@ -17,11 +18,10 @@ use lib.Ieee.Fits.{down_pos}
 use lib.Ieee.Positive.{through}
 use lib.ListN.{length}
 use borrow.Author.Tests.{eqb-true, ltb-true, ltb-false, leb-true, le-leb, lt-ltb, le-ltb}
+use Rattle.base.specs.declared.Refusal.{Refusal}
 use Rattle.base.proofs.Laws.Tests.{by_bool, by_test, split, and_l, and_r, and_yes}
 use Rattle.base.proofs.Laws.First.{first_before, first_found, first_within, first_none}
 use Rattle.base.specs.First.{first}
-use Rattle.base.specs.declared.Cause.{Cause}
-use Rattle.base.specs.declared.Cause.TheVariants.{Allowed}
 use Rattle.ratio.specs.Finite.{is_finite, not_finite}
 use Rattle.base.specs.Limits.{LONGEST_TEXT}
 use Rattle.ratio.specs.Parts.{ONE}
@@ -40,10 +40,7 @@ use Rattle.md_eight.specs.Bounds.{CountsAtMost}
 use Rattle.md_eight.specs.declared.Detectors.{Detectors}
 use Rattle.md_eight.proofs.Loops.Detectors.{Within, fractions_proper, within_countable, counts_at_most}
 use Rattle.md_counts.specs.CjkInvalidStop as stop
-use Rattle.md_meaning.specs.declared.Limit.TheVariants.{Threshold}
 use Rattle.md_meaning.specs.declared.Score.{Score}
-use Rattle.md_meaning.specs.declared.Scored.{Scored}
-use Rattle.md_meaning.specs.declared.Scored.TheVariants.{Score as Told}
 use Rattle.md_meaning.specs.Text.{total, checkpoint}
 use Rattle.md_meaning.specs.Scan.{state_at, stops, reaches, sum_of, scored, stop_of, accepted_score}
 use Rattle.md_meaning.specs.MessRatio.{causes, of_scoring, mess_ratio}
@@ -103,10 +100,10 @@ le_through t u x T U p h k = go t u x T U p.value h k
 -- ---- of one text that is accepted
 module _ (text classes pairs : List ℕ) where
   abbrev stops_at : Float → ℕ → Bool
-  stops_at x = stops classes pairs text (Threshold x)
+  stops_at x = stops classes pairs text (Some x)
 
   abbrev stop_at : Float → ℕ
-  stop_at x = stop_of classes pairs text (Threshold x)
+  stop_at x = stop_of classes pairs text (Some x)
 
   -- the score after so many characters
   abbrev told_at : ℕ → Bool → Score
@@ -119,14 +116,14 @@ module _ (text classes pairs : List ℕ) where
         counts = eight_shown (counts (state_at classes pairs text k)) (ratios (state_at classes pairs text k));
       }
 
-  same : (s r : Score) → Told r ≡ Told s → s ≡ r
+  same : (s r : Score) → ◌≡◌ {A = Result Score Refusal} (Ok r) (Ok s) → s ≡ r
   same s r e = cc
 
-  stopped_is : (x : Float) (s : Score) → accepted_score classes pairs text (Threshold x) ≡ Told s → stop_at x < total text → s ≡ told_at (stop_at x + 1) true
+  stopped_is : (x : Float) (s : Score) → accepted_score classes pairs text (Some x) ≡ Ok s → stop_at x < total text → s ≡ told_at (stop_at x + 1) true
   unfolding accepted_score scored
   stopped_is x s e l = same s (told_at (stop_at x + 1) true) (rw (lt-ltb (stop_at x) (total text) l) at e)
 
-  whole_is : (x : Float) (s : Score) → accepted_score classes pairs text (Threshold x) ≡ Told s → total text ≤ stop_at x → s ≡ told_at (total text) false
+  whole_is : (x : Float) (s : Score) → accepted_score classes pairs text (Some x) ≡ Ok s → total text ≤ stop_at x → s ≡ told_at (total text) false
   unfolding accepted_score scored
   whole_is x s e l = same s (told_at (total text) false) (rw (le-ltb (stop_at x) (total text) l) at e)
 
@@ -157,7 +154,7 @@ module _ (text classes pairs : List ℕ) (t u : Float) (H : Higher t u) where
   Both low high = Compared low high × (high.stopped ≡ true → low.stopped ≡ true)
 
   module _ (short : length text ≤ LONGEST_TEXT) (low high : Score)
-      (l : accepted_score classes pairs text (Threshold t) ≡ Told low) (h : accepted_score classes pairs text (Threshold u) ≡ Told high) where
+      (l : accepted_score classes pairs text (Some t) ≡ Ok low) (h : accepted_score classes pairs text (Some u) ≡ Ok high) where
     order : stop_at text classes pairs t ≤ stop_at text classes pairs u
     order = stop_order short
 
@@ -206,13 +203,13 @@ module _ (text classes pairs : List ℕ) (t u : Float) where
   accepted_alike T U = rw (T, U)
 
   -- the three sentences
-  pub higher_compared : Higher t u → (low high : Score) → mess_ratio text t classes pairs ≡ Told low → mess_ratio text u classes pairs ≡ Told high → Compared low high
+  pub higher_compared : Higher t u → (low high : Score) → mess_ratio text t classes pairs ≡ Ok low → mess_ratio text u classes pairs ≡ Ok high → Compared low high
   higher_compared H low high e f =
       let a = scored_faultless text t classes pairs low e in
       (compared text classes pairs t u H a.faultless.short low high a.is (scored_faultless text u classes pairs high f).is).0
 
   -- a line that stops early at the higher one stops early at the lower one
-  pub stops_only_shrink : Higher t u → (low high : Score) → mess_ratio text t classes pairs ≡ Told low → mess_ratio text u classes pairs ≡ Told high
+  pub stops_only_shrink : Higher t u → (low high : Score) → mess_ratio text t classes pairs ≡ Ok low → mess_ratio text u classes pairs ≡ Ok high
       → high.stopped ≡ true → low.stopped ≡ true
   stops_only_shrink H low high e f =
       let a = scored_faultless text t classes pairs low e in
@@ -258,11 +255,11 @@ module _ (k : ℕ) (s : Detectors) (w : Within k s) (h : k ≤ LONGEST_TEXT + 1)
       k8
 
 pub above_all : (text classes pairs : List ℕ) (u : Float) → is_finite u ≡ true → lt HIGHEST_F32 u ≡ true
-    → (s : Score) → mess_ratio text u classes pairs ≡ Told s → s.stopped ≡ false
+    → (s : Score) → mess_ratio text u classes pairs ≡ Ok s → s.stopped ≡ false
 unfolding stops reaches
 above_all text classes pairs u U h s e =
     let a = scored_faultless text u classes pairs s e in
-    let f = first_none (stops classes pairs text (Threshold u)) (total text) (λ j l. never j l a.faultless.short) in
+    let f = first_none (stops classes pairs text (Some u)) (total text) (λ j l. never j l a.faultless.short) in
     ap (λ (r : Score). r.stopped) (whole_is text classes pairs u s a.is (omega (arith, f)))
   where
     highest : UpTo HIGHEST (whole HIGHEST)
@@ -282,7 +279,7 @@ above_all text classes pairs u U h s e =
     nothing_more true = refl
     nothing_more false = refl
 
-    never : (j : ℕ) → j < total text → length text ≤ LONGEST_TEXT → stops classes pairs text (Threshold u) j ≡ false
+    never : (j : ℕ) → j < total text → length text ≤ LONGEST_TEXT → stops classes pairs text (Some u) j ≡ false
     never j l short =
         let x = sum_of (state_at classes pairs text (j + 1)) in
         let b = sum_up_to (j + 1) (state_at classes pairs text (j + 1)) (state_within classes pairs text (j + 1)) (omega arith) in

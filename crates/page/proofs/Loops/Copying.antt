@@ -7,7 +7,7 @@ use native.Mathlib.Nat.{zero-add}
 use native.Mathlib.Omega.{arith}
 use lib.ListN.{length, get_or, set}
 use Rattle.base.specs.Put.{put}
-use Rattle.base.proofs.Loops.Putting.{Putting, putting_start, putting_length, putting_room, putting_more, putting_end}
+use Rattle.base.proofs.Loops.Putting.{Putting, putting_start, putting_more, putting_end}
 use Rattle.page_meaning.specs.Inner.Tables.{looked}
 use Rattle.page_meaning.proofs.Laws.Lists.{length_map, get_d_map}
 
@@ -22,12 +22,6 @@ module _ {table l out : List ℕ} where
   copying_start h = record { so_far = putting_start out 0 (looked table l) (omega (arith, size table l)) }
 
   module _ {after : List ℕ} {i : ℕ} (g : Copying table l out after i) where
-    pub copying_length : length after ≡ length out
-    copying_length = putting_length out 0 (looked table l) g.so_far
-
-    pub copying_room : i < length l → i < length after
-    copying_room h = rw zero-add at (putting_room out 0 (looked table l) g.so_far (omega (arith, size table l)))
-
     pub copying_more : i < length l → (x : ℕ) → x ≡ get_or table (get_or l i 0) 0 → Copying table l out (set after i x) (i + 1)
     copying_more h x e =
         let m : i < length (looked table l) = omega (arith, size table l) in

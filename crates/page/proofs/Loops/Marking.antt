@@ -63,5 +63,5 @@ module _ {page : List ℕ} {marks : List Bool} {i : ℕ} (g : Marking page marks
             (λ n. let y : j ≡ i = omega arith in absurd (eqb-false (get_or page j 0 % MARKS) m z (rw y (sym e)))));
       }
 
-  pub marking_end : PAGE_ENTRIES ≤ i → i ≡ first_bad page
-  marking_end h = sym (first_end (bad_entry page) PAGE_ENTRIES i (omega (arith, g.below))) ∙ g.walked
+  pub marking_end : PAGE_ENTRIES ≤ i → PAGE_ENTRIES ≡ first_bad page
+  marking_end h = let e : PAGE_ENTRIES ≡ i = omega (arith, g.below) in e ∙ sym (first_end (bad_entry page) PAGE_ENTRIES i (sym e)) ∙ g.walked

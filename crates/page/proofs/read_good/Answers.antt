@@ -8,13 +8,13 @@ use Rattle.page.proofs.read_good.Goals as goal
 pub returns-then-unused-bytes : goal.returns-then-unused-bytes
 returns-then-unused-bytes c =
     let told = unused _ _ _ c.requires.0 c.requires.1 _ c.first_unused_byte-unused.ensures c.if-unused-bytes.true in
-    record { value = rw c.not_counted.ensures told.0; out_after = told.1 }
+    record { value = rw c.refuse.ensures told.0; out_after = told.1 }
 
 pub returns-then-out-bytes : goal.returns-then-out-bytes
 returns-then-out-bytes c =
     let found = c.first_unused_byte-unused.ensures in
     let told = short_read _ _ _ c.requires.0 c.requires.1 (rw found at c.if-unused-bytes.false) c.if-out-bytes.true in
-    record { value = rw c.not_counted-then-out-bytes.ensures told.0; out_after = told.1 }
+    record { value = rw c.refuse-then-out-bytes.ensures told.0; out_after = told.1 }
 
 pub returns : goal.returns
 returns c =

@@ -10,14 +10,14 @@ returns-then-lacking-text c =
     let words : Below 65536 c.args.page.now = λ i h. omega (arith, c.shared_slice_known-1.given i) in
     let found = c.first_lacking-lacking.ensures ∙ lacking_at_lem _ _ c.requires.1 words c.invert.ensures _ in
     let told = lacking _ _ _ c.requires.0 c.requires.1 _ found c.if-lacking-text.true in
-    record { value = rw c.not_counted.ensures told.0; out_after = told.1 }
+    record { value = rw c.refuse.ensures told.0; out_after = told.1 }
 
 pub returns-then-out-text : goal.returns-then-out-text
 returns-then-out-text c =
     let words : Below 65536 c.args.page.now = λ i h. omega (arith, c.shared_slice_known-1.given i) in
     let found = c.first_lacking-lacking.ensures ∙ lacking_at_lem _ _ c.requires.1 words c.invert.ensures _ in
     let told = short_write _ _ _ c.requires.0 c.requires.1 (rw found at c.if-lacking-text.false) c.if-out-text.true in
-    record { value = rw c.not_counted-then-out-text.ensures told.0; out_after = told.1 }
+    record { value = rw c.refuse-then-out-text.ensures told.0; out_after = told.1 }
 
 pub bytes_into-requires : goal.bytes_into-requires
 bytes_into-requires c =

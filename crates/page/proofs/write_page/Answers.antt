@@ -1,18 +1,19 @@
 -- A text that is too long, then a bad page; under a good one `write_good` decides. Assumes nothing.
 use mathlib.Core.Path.{sym, ◌∙◌}
+use Rattle.base.proofs.Laws.Causes.{handed_on}
 use Rattle.page_meaning.proofs.Laws.Answer.{allowed_good, over_write, bad_write}
 use Rattle.page.proofs.write_page.Goals as goal
 
 pub returns-then-text-gt-LONGEST_TEXT : goal.returns-then-text-gt-LONGEST_TEXT
 returns-then-text-gt-LONGEST_TEXT c =
     let told = over_write _ _ _ c.if-text-gt-LONGEST_TEXT.true in
-    record { value = rw c.not_counted.ensures told.0; out_after = told.1 }
+    record { value = rw c.refuse.ensures told.0; out_after = told.1 }
 
 pub write_good-requires : goal.write_good-requires
 write_good-requires c =
-    (c.if-text-gt-LONGEST_TEXT.false, allowed_good _ (sym c.bad_page.ensures ∙ c.in-Allowed.is))
+    (c.if-text-gt-LONGEST_TEXT.false, allowed_good _ (sym c.bad_page.ensures ∙ c.in_ok-bad_page.was))
 
-pub returns-in-Refused : goal.returns-in-Refused
-returns-in-Refused c =
-    let told = bad_write _ _ _ c.if-text-gt-LONGEST_TEXT.false _ (sym c.bad_page.ensures ∙ c.in-Refused.is) in
-    record { value = told.0; out_after = told.1 }
+pub returns-in_err-bad_page : goal.returns-in_err-bad_page
+returns-in_err-bad_page c =
+    let told = bad_write _ _ _ c.if-text-gt-LONGEST_TEXT.false _ (sym c.bad_page.ensures ∙ c.in_err-bad_page.was) in
+    record { value = handed_on _ _ c.from_residual.ensures.1 ∙ told.0; out_after = told.1 }

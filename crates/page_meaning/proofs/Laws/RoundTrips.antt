@@ -2,6 +2,7 @@
 -- text"): of the definitions (`bytes_again`, `text_again`); of the causes, so that what was read is always writable in enough room and what was written
 -- always readable (`read_writable`, `written_readable`); and of two calls in a row, where the second is given what the first left in its output, cut to its
 -- count (`write_after_read`, `read_after_write`). Assumes nothing.
+use Rattle.std.specs.Prelude.{Result, Ok, ⊤}
 use Prim.Native.Nat.{ℕ, ◌+◌, ◌≤◌, ◌<◌}
 use mathlib.Core.Path.{◌≡◌, refl, sym, ap, ◌∙◌}
 use mathlib.Core.Logic.{◌≢◌}
@@ -13,15 +14,13 @@ use lib.ListN.{length, get_or, take}
 use lib.Seq.{take-append_seam, drop-append_seam}
 use lib.Dec.{eqb, ltb}
 use borrow.Author.Tests.{eqb-false, ne_eqb, ltb-false, le-ltb}
-use Rattle.base.specs.declared.Cause.{Cause}
-use Rattle.base.specs.declared.Cause.TheVariants.{Allowed}
-use Rattle.base.specs.declared.Counted.{Counted}
-use Rattle.base.specs.declared.Counted.TheVariants.{Count}
+use Rattle.base.specs.declared.refusals.Cause.{Cause}
+use Rattle.base.specs.declared.Refusal.{Refusal}
 use Rattle.base.specs.Causes.{given, first_of}
 use Rattle.base.specs.Counted.{count_unless}
 use Rattle.base.specs.Limits.{LONGEST_TEXT}
 use Rattle.base.specs.Put.{put}
-use Rattle.base.specs.Refusals.{TOO_LONG, ILL_FORMED, NO_ROOM, NOT_ON_PAGE}
+use Rattle.base.specs.declared.refusals.Cause.TheVariants.{TooLong, IllFormed, NoRoom, NotOnPage}
 use Rattle.base.proofs.Laws.Causes.{given_free, first_free, free_given, free_first}
 use Rattle.base.proofs.Laws.Counted.{counted_allowed, count_allowed, count_is, after_allowed}
 use Rattle.base.proofs.Laws.First.{first_before, first_none}
@@ -75,11 +74,11 @@ record Free (page l : List ℕ) (place room : ℕ) : Type 0 where
   none : length l ≤ place
   fits : length l ≤ room
 
-module _ (page l : List ℕ) (place number room : ℕ) where
-  abbrev own : Cause
-  own = given (ltb place (length l)) number place
+module _ (page l : List ℕ) (place : ℕ) (cause : Cause) (room : ℕ) where
+  abbrev own : Result ⊤ Refusal
+  own = given (ltb place (length l)) cause place
 
-  free_of : first_of (too_long l ∷ bad_page page ∷ own ∷ no_room l room ∷ []) ≡ Allowed → Free page l place room
+  free_of : first_of (too_long l ∷ bad_page page ∷ own ∷ no_room l room ∷ []) ≡ Ok tt → Free page l place room
   unfolding too_long no_room
   free_of e =
       let a = first_free (too_long l) _ e in
@@ -87,39 +86,39 @@ module _ (page l : List ℕ) (place number room : ℕ) where
       let c = first_free own _ b.1 in
       let d = first_free (no_room l room) [] c.1 in
       record {
-        short = ltb-false LONGEST_TEXT (length l) (given_free _ TOO_LONG 0 a.0);
+        short = ltb-false LONGEST_TEXT (length l) (given_free _ TooLong 0 a.0);
         good = allowed_good page b.0;
-        none = ltb-false place (length l) (given_free _ number place c.0);
-        fits = ltb-false room (length l) (given_free _ NO_ROOM 0 d.0);
+        none = ltb-false place (length l) (given_free _ cause place c.0);
+        fits = ltb-false room (length l) (given_free _ NoRoom 0 d.0);
       }
 
-  of_free : Free page l place room → first_of (too_long l ∷ bad_page page ∷ own ∷ no_room l room ∷ []) ≡ Allowed
+  of_free : Free page l place room → first_of (too_long l ∷ bad_page page ∷ own ∷ no_room l room ∷ []) ≡ Ok tt
   unfolding too_long no_room first_of
   of_free f =
-      free_first (too_long l) (bad_page page ∷ own ∷ no_room l room ∷ []) (free_given _ TOO_LONG 0 (le-ltb LONGEST_TEXT (length l) f.short))
+      free_first (too_long l) (bad_page page ∷ own ∷ no_room l room ∷ []) (free_given _ TooLong 0 (le-ltb LONGEST_TEXT (length l) f.short))
       (free_first (bad_page page) (own ∷ no_room l room ∷ []) (good_allowed page f.good)
-      (free_first own (no_room l room ∷ []) (free_given _ number place (le-ltb place (length l) f.none))
-      (free_first (no_room l room) [] (free_given _ NO_ROOM 0 (le-ltb room (length l) f.fits)) refl)))
+      (free_first own (no_room l room ∷ []) (free_given _ cause place (le-ltb place (length l) f.none))
+      (free_first (no_room l room) [] (free_given _ NoRoom 0 (le-ltb room (length l) f.fits)) refl)))
 
 module _ (page : List ℕ) where
-  read_free : (bytes : List ℕ) (room : ℕ) → read_causes page bytes room ≡ Allowed → Free page bytes (unused_at page bytes) room
+  read_free : (bytes : List ℕ) (room : ℕ) → read_causes page bytes room ≡ Ok tt → Free page bytes (unused_at page bytes) room
   unfolding read_causes unused_byte
-  read_free bytes room e = free_of page bytes (unused_at page bytes) ILL_FORMED room e
+  read_free bytes room e = free_of page bytes (unused_at page bytes) IllFormed room e
 
-  free_read : (bytes : List ℕ) (room : ℕ) → Free page bytes (unused_at page bytes) room → read_causes page bytes room ≡ Allowed
+  free_read : (bytes : List ℕ) (room : ℕ) → Free page bytes (unused_at page bytes) room → read_causes page bytes room ≡ Ok tt
   unfolding read_causes unused_byte
-  free_read bytes room f = of_free page bytes (unused_at page bytes) ILL_FORMED room f
+  free_read bytes room f = of_free page bytes (unused_at page bytes) IllFormed room f
 
-  write_free : (text : List ℕ) (room : ℕ) → write_causes page text room ≡ Allowed → Free page text (lacking_at page text) room
+  write_free : (text : List ℕ) (room : ℕ) → write_causes page text room ≡ Ok tt → Free page text (lacking_at page text) room
   unfolding write_causes not_on_page
-  write_free text room e = free_of page text (lacking_at page text) NOT_ON_PAGE room e
+  write_free text room e = free_of page text (lacking_at page text) NotOnPage room e
 
-  free_write : (text : List ℕ) (room : ℕ) → Free page text (lacking_at page text) room → write_causes page text room ≡ Allowed
+  free_write : (text : List ℕ) (room : ℕ) → Free page text (lacking_at page text) room → write_causes page text room ≡ Ok tt
   unfolding write_causes not_on_page
-  free_write text room f = of_free page text (lacking_at page text) NOT_ON_PAGE room f
+  free_write text room f = of_free page text (lacking_at page text) NotOnPage room f
 
-  pub read_writable : (bytes : List ℕ) (room back : ℕ) → read_causes page bytes room ≡ Allowed → length bytes ≤ back
-      → write_causes page (points_of page bytes) back ≡ Allowed
+  pub read_writable : (bytes : List ℕ) (room back : ℕ) → read_causes page bytes room ≡ Ok tt → length bytes ≤ back
+      → write_causes page (points_of page bytes) back ≡ Ok tt
   read_writable bytes room back e h =
       let f = read_free bytes room e in
       let s = length_map (point_of page) bytes in
@@ -131,8 +130,8 @@ module _ (page : List ℕ) where
         fits = omega arith;
       })
 
-  pub written_readable : (text : List ℕ) (room back : ℕ) → write_causes page text room ≡ Allowed → length text ≤ back
-      → read_causes page (bytes_of page text) back ≡ Allowed
+  pub written_readable : (text : List ℕ) (room back : ℕ) → write_causes page text room ≡ Ok tt → length text ≤ back
+      → read_causes page (bytes_of page text) back ≡ Ok tt
   written_readable text room back e h =
       let f = write_free text room e in
       let s = length_map (byte_of page) text in
@@ -149,7 +148,7 @@ front : (out l : List ℕ) (n : ℕ) → n ≡ length l → take n (put out 0 l)
 front out l n e = rw (put_first out l, e) (take-append_seam l _)
 
 module _ (page : List ℕ) where
-  pub write_after_read : (bytes out : List ℕ) (n : ℕ) (back : List ℕ) → read_answer page bytes (length out) ≡ Count n → n ≤ length back
+  pub write_after_read : (bytes out : List ℕ) (n : ℕ) (back : List ℕ) → read_answer page bytes (length out) ≡ Ok n → n ≤ length back
       → Back bytes n back (write_answer page (take n (read_into page bytes out)) (length back)) (write_into page (take n (read_into page bytes out)) back)
   unfolding read_answer read_into write_answer write_into
   write_after_read bytes out n back e h =
@@ -164,12 +163,12 @@ module _ (page : List ℕ) where
       ap (λ (x : List ℕ). write_into page x back) t ∙ after_allowed (bytes_of page (points_of page bytes)) back _ w
       ∙ ap (put back 0) (bytes_again page bytes f.none f.good) in
       record {
-        counts = ap (λ (x : List ℕ). write_answer page x (length back)) t ∙ counted_allowed _ (length (points_of page bytes)) w ∙ ap Count (s ∙ sym c);
+        counts = ap (λ (x : List ℕ). write_answer page x (length back)) t ∙ counted_allowed _ (length (points_of page bytes)) w ∙ ap Ok (s ∙ sym c);
         holds = ap (take n) l ∙ front back bytes n c;
         leaves = l;
       }
 
-  pub read_after_write : (text out : List ℕ) (n : ℕ) (back : List ℕ) → write_answer page text (length out) ≡ Count n → n ≤ length back
+  pub read_after_write : (text out : List ℕ) (n : ℕ) (back : List ℕ) → write_answer page text (length out) ≡ Ok n → n ≤ length back
       → Back text n back (read_answer page (take n (write_into page text out)) (length back)) (read_into page (take n (write_into page text out)) back)
   unfolding read_answer read_into write_answer write_into
   read_after_write text out n back e h =
@@ -184,7 +183,7 @@ module _ (page : List ℕ) where
       ap (λ (x : List ℕ). read_into page x back) t ∙ after_allowed (points_of page (bytes_of page text)) back _ w
       ∙ ap (put back 0) (text_again page text f.none) in
       record {
-        counts = ap (λ (x : List ℕ). read_answer page x (length back)) t ∙ counted_allowed _ (length (bytes_of page text)) w ∙ ap Count (s ∙ sym c);
+        counts = ap (λ (x : List ℕ). read_answer page x (length back)) t ∙ counted_allowed _ (length (bytes_of page text)) w ∙ ap Ok (s ∙ sym c);
         holds = ap (take n) l ∙ front back text n c;
         leaves = l;
       }

@@ -6,12 +6,12 @@ use borrow.Author.Rules.{rules}
 use Rattle.program.proofs.report.Goals as goal
 
 pub put_score-requires : goal.put_score-requires
-put_score-requires c = ((answer_plain _ _ (sym c.in-Score.is ∙ c.answer.ensures)).sum.no_nan, search rules)
+put_score-requires c = ((answer_plain _ _ (sym c.in-Ok.is ∙ c.answer.ensures)).sum.no_nan, search rules)
 
-pub returns-in-Refused : goal.returns-in-Refused
-returns-in-Refused c =
-    goes_whole _ _ _ _ _ (sym c.in-Refused.is ∙ c.answer.ensures) c.put_refused.ensures
+pub returns-in-Err : goal.returns-in-Err
+returns-in-Err c =
+    goes_whole _ _ _ _ _ (sym c.in-Err.is ∙ c.answer.ensures) c.put_refused.ensures
 
-pub returns-in-Score : goal.returns-in-Score
-returns-in-Score c =
-    goes_whole _ _ _ _ _ (sym c.in-Score.is ∙ c.answer.ensures) c.put_score.ensures
+pub returns-in-Ok : goal.returns-in-Ok
+returns-in-Ok c =
+    goes_whole _ _ _ _ _ (sym c.in-Ok.is ∙ c.answer.ensures) c.put_score.ensures

@@ -1,11 +1,11 @@
--- What `read_case` promises of its buffer: the size is within it, and it is as long as before; and the front of a case (`FRONT`).
+-- How many cases a replay compares at the most (`MOST_CASES`), and how far the words of a case go that a program names (`MOST_WORDS`).
 -- Assumes nothing.
-use Rattle.std.specs.Prelude.{ℕ, ◌≤◌, ◌≡◌, List, length}
+use Rattle.std.specs.Prelude.{ℕ}
 
-pub record Fits (n : ℕ) (before after : List ℕ) : Type 0 where
-  pub within : n ≤ length after
-  pub same : length after ≡ length before
+-- as in src/lib.rt
+abbrev pub MOST_CASES : ℕ
+MOST_CASES = 100000
 
--- the words of a case that have a place of their own stand among so many at most
-abbrev pub FRONT : ℕ
-FRONT = 100
+-- more words than any case has
+abbrev pub MOST_WORDS : ℕ
+MOST_WORDS = 1000000

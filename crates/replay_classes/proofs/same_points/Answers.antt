@@ -4,4 +4,4 @@ use Rattle.classes.proofs.Laws.Check.{passed_good}
 use Rattle.replay_classes.proofs.same_points.Goals as goal
 
 pub same_classes-requires : goal.same_classes-requires
-same_classes-requires c = (passed_good _ _ (sym c.check_classes.ensures ∙ c.in-Count.is)).good
+same_classes-requires c = (passed_good _ _ (sym c.check_classes.ensures ∙ c.in-Ok.is)).good

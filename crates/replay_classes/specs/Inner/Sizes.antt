@@ -7,7 +7,3 @@ CASE_BYTES = 262144
 
 abbrev pub MADE_BYTES : ℕ
 MADE_BYTES = 196632
-
--- more words than any case has
-abbrev pub MOST_WORDS : ℕ
-MOST_WORDS = 1000000

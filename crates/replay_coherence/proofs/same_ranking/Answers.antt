@@ -5,11 +5,3 @@ use Rattle.replay_coherence.proofs.same_ranking.Goals as goal
 
 pub slice_bounds-coherence_ratio-end-2 : goal.slice_bounds-coherence_ratio-end-2
 slice_bounds-coherence_ratio-end-2 c = simp length-take (omega (arith, c.least-n.ensures))
-
-pub same_matches-requires : goal.same_matches-requires
-same_matches-requires c =
-    c.requires.1
-
-pub zeros-requires : goal.zeros-requires
-zeros-requires c =
-    c.requires.2

@@ -2,4 +2,4 @@
 use Rattle.replay_md.proofs.same_answer.Goals as goal
 
 pub same_score-requires : goal.same_score-requires
-same_score-requires c = c.requires _ c.in-Score.is
+same_score-requires c = c.requires _ c.in-Ok.is

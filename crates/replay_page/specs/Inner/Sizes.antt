@@ -3,9 +3,6 @@
 use Rattle.std.specs.Prelude.{ℕ, ◌+◌}
 use Rattle.base.specs.Limits.{LONGEST_TEXT}
 
-abbrev pub CASE_BYTES : ℕ
-CASE_BYTES = 4096
-
 -- entries that a case has room for
 abbrev pub PAGE_ROOM : ℕ
 PAGE_ROOM = 132

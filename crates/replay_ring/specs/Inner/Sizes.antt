@@ -4,9 +4,6 @@ use Rattle.std.specs.Prelude.{ℕ, ◌+◌, ◌*◌}
 use Rattle.ring_meaning.specs.Record.{RECORD}
 use Rattle.ring_meaning.specs.Ring.{MOST_SLOTS}
 
-abbrev pub CASE_BYTES : ℕ
-CASE_BYTES = 4096
-
 -- more than a case tells of a ring or of an output
 abbrev pub SMALL : ℕ
 SMALL = 1024

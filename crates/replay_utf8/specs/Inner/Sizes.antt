@@ -3,9 +3,6 @@
 use Rattle.std.specs.Prelude.{ℕ, ◌+◌}
 use Rattle.base.specs.Limits.{LONGEST_BYTES, LONGEST_TEXT}
 
-abbrev pub CASE_BYTES : ℕ
-CASE_BYTES = 1024
-
 -- more than any unit, tail or case has
 abbrev pub SMALL : ℕ
 SMALL = 1024

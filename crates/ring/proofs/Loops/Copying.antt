@@ -7,11 +7,11 @@ use native.Mathlib.Nat.{mod-lt}
 use native.Mathlib.Omega.{arith}
 use lib.ListN.{length, take, drop}
 use Rattle.base.specs.Put.{put}
-use Rattle.base.proofs.Laws.Put.{put_nothing, put_length}
+use Rattle.base.proofs.Laws.Put.{put_nothing}
 use Rattle.ring_meaning.specs.Record.{RECORD}
 use Rattle.ring_meaning.specs.Ring.{slots, slot, records_from}
 use Rattle.ring_meaning.specs.Inner.Ring.{GoodRing}
-use Rattle.ring_meaning.proofs.Laws.Ring.{slot_inside, slot_length, records_none, records_more, flat_more, flat_length, put_next}
+use Rattle.ring_meaning.proofs.Laws.Ring.{slot_length, records_none, records_more, flat_more, flat_length, put_next}
 
 pub record Copying (ring : List ℕ) (head n : ℕ) (old out : List ℕ) (i : ℕ) : Type 0 where
   pub good : GoodRing ring head n
@@ -24,18 +24,6 @@ module _ (ring : List ℕ) (head n : ℕ) (old : List ℕ) where
   copying_start g h = record { good = g; room = h; below = omega arith; so_far = sym (ap (put old 0) (records_none ring head) ∙ put_nothing old 0) }
 
   module _ {out : List ℕ} {i : ℕ} (p : Copying ring head n old out i) where
-    pub copying_length : length out ≡ length old
-    copying_length =
-        ap length p.so_far
-        ∙ put_length old 0 (flatten (records_from ring head i)) (omega (arith, flat_length ring p.good.size head i, p.room, p.below))
-
-    -- the bytes of the next record stand inside the ring, and their place inside the output
-    pub copying_inside : (k : ℕ) → k ≡ (head + i) % slots ring → RECORD * k + RECORD ≤ length ring
-    copying_inside k e = slot_inside ring p.good.size k (rw e (mod-lt (head + i) p.good.size.some))
-
-    pub copying_room : i < n → RECORD * i + RECORD ≤ length out
-    copying_room h = omega (arith, copying_length, p.room)
-
     -- the bytes from the slot's first on, as many as a record has
     lent : (k : ℕ) → k ≡ (head + i) % slots ring → (end : ℕ) → end ≡ RECORD * k + RECORD
         → take (end - RECORD * k) (drop (RECORD * k) ring) ≡ slot ring ((head + i) % slots ring)

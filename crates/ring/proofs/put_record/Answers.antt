@@ -10,7 +10,7 @@ use Rattle.ring.proofs.put_record.Goals as goal
 pub returns-then-wrong_ring : goal.returns-then-wrong_ring
 returns-then-wrong_ring c =
     let told = put_bad _ _ _ _ (sym c.wrong_ring.ensures ∙ c.if-wrong_ring.true) in
-    record { value = rw c.ring_refused.ensures told.0; ring_after = told.1 }
+    record { value = rw c.refuse.ensures told.0; ring_after = told.1 }
 
 pub overflow_sub-unused : goal.overflow_sub-unused
 overflow_sub-unused c = (good_ring _ _ _ (sym c.wrong_ring.ensures ∙ c.if-wrong_ring.false)).held
@@ -19,7 +19,7 @@ pub returns-then-unused-eq0 : goal.returns-then-unused-eq0
 returns-then-unused-eq0 c =
     let fine = sym c.wrong_ring.ensures ∙ c.if-wrong_ring.false in
     let told = put_full _ _ _ fine _ (omega (arith, (good_ring _ _ _ fine).held, c.if-unused-eq0.true)) in
-    record { value = rw c.ring_refused-then-unused-eq0.ensures told.0; ring_after = told.1 }
+    record { value = rw c.refuse-then-unused-eq0.ensures told.0; ring_after = told.1 }
 
 pub wrapped-free-requires : goal.wrapped-free-requires
 wrapped-free-requires c =

@@ -2,6 +2,7 @@
 -- then those in the ring, in this order and byte for byte (`history`); so there are as many (`history_counts`); and what is kept behind the last
 -- call passes the test of the next, so that none is refused with 15 (`history_good`). `steps` is what one call keeps.
 -- Assumes nothing.
+use Rattle.std.specs.Prelude.{Result, Ok, Err}
 use Prim.Native.Nat.{ℕ, zero, suc, min, ◌+◌, ◌-◌, ◌*◌, ◌%◌, ◌≤◌, ◌<◌}
 use mathlib.Core.Path.{◌≡◌, refl, sym, ap, ◌∙◌}
 use mathlib.Core.Bool.{false}
@@ -12,15 +13,13 @@ use lib.Dec.{eqb}
 use lib.ListN.{length, length-append}
 use lib.Seq.{take_at, drop_at}
 use borrow.Author.Tests.{eqb-true, eqb-false}
-use Rattle.base.specs.declared.Cause.TheVariants.{Allowed}
+use Rattle.base.specs.declared.Refusal.{Refusal}
 use Rattle.base.specs.Causes.{refused_at}
 use Rattle.base.specs.Put.{put}
-use Rattle.base.specs.Refusals.{NO_ROOM, BAD_RING, RING_FULL}
+use Rattle.base.specs.declared.refusals.Cause.TheVariants.{NoRoom, BadRing, RingFull}
 use Rattle.base.proofs.Laws.Put.{put_first}
 use Rattle.base.proofs.Laws.Tests.{by_bool, split}
 use Rattle.ring_meaning.specs.declared.Kept.{Kept}
-use Rattle.ring_meaning.specs.declared.Ringed.{Ringed}
-use Rattle.ring_meaning.specs.declared.Ringed.TheVariants.{Kept as Keep, Refused as NotKept}
 use Rattle.ring_meaning.specs.declared.Verdict.{Verdict}
 use Rattle.ring_meaning.specs.Record.{RECORD, record_of}
 use Rattle.ring_meaning.specs.Ring.{slots, slot, wrong_size, wrong_ring, records_from}
@@ -52,12 +51,12 @@ front_records ring rest g at (suc n) =
     (ap (λ (y : List (List ℕ)). x ∷ y) (front_records ring rest g (at + 1) n))
 
 -- ---- a put
-put_refused : (s : State) (v : Verdict) → Good s → Step s (Put v s.ring (kept_unless (refused_at RING_FULL 0) 0 0))
+put_refused : (s : State) (v : Verdict) → Good s → Step s (Put v s.ring (refused_at RingFull 0))
 unfolding kept_unless refused_at next keeping put_in came_out in_ring
 put_refused s v g = (g, append-nil (records_from s.ring s.head s.count))
 
 put_accepted : (s : State) (v : Verdict) → Good s → s.count < slots s.ring
-    → Step s (Put v (put s.ring (RECORD * ((s.head + s.count) % slots s.ring)) (record_of v)) (kept_unless Allowed s.head (s.count + 1)))
+    → Step s (Put v (put s.ring (RECORD * ((s.head + s.count) % slots s.ring)) (record_of v)) (kept_unless (Ok tt) s.head (s.count + 1)))
 unfolding kept_unless next keeping put_in came_out in_ring
 put_accepted s v g h =
     let r = record_length v in
@@ -66,7 +65,7 @@ put_accepted s v g h =
       sym (records_appended s.ring s.head s.count g h (record_of v) r),
     )
 
-put_steps : (s : State) (v : Verdict) (left : List ℕ) (a : Ringed) → Good s
+put_steps : (s : State) (v : Verdict) (left : List ℕ) (a : Result Kept Refusal) → Good s
     → a ≡ put_answer s.ring s.head s.count
     → left ≡ ring_after s.ring s.head s.count v
     → Step s (Put v left a)
@@ -85,14 +84,14 @@ put_steps s v left a g e f =
         below m n h ne = split m n (λ l. l) (λ l. absurd (ne (omega arith)))
 
 -- ---- a flush
-flush_refused : (s : State) (most : ℕ) (out : List ℕ) → Good s → Step s (Flush most out out (kept_unless (refused_at NO_ROOM 0) 0 0))
+flush_refused : (s : State) (most : ℕ) (out : List ℕ) → Good s → Step s (Flush most out out (refused_at NoRoom 0))
 unfolding kept_unless refused_at next keeping put_in came_out in_ring
 flush_refused s most out g = (g, append-nil (records_from s.ring s.head s.count))
 
 flush_accepted : (s : State) (most : ℕ) (out : List ℕ) → Good s
     → Step s
     (Flush most out (put out 0 (flatten (records_from s.ring s.head (min most s.count))))
-    (kept_unless Allowed ((s.head + min most s.count) % slots s.ring) (s.count - min most s.count)))
+    (kept_unless (Ok tt) ((s.head + min most s.count) % slots s.ring) (s.count - min most s.count)))
 unfolding kept_unless next keeping put_in came_out in_ring
 flush_accepted s most out g =
     let n = min most s.count in
@@ -115,7 +114,7 @@ flush_accepted s most out g =
         rw (fall, put_first out (flatten (records_from s.ring s.head (min most s.count))))
         (front_records s.ring _ g.size s.head (min most s.count))
 
-flush_steps : (s : State) (most : ℕ) (out left : List ℕ) (a : Ringed) → Good s
+flush_steps : (s : State) (most : ℕ) (out left : List ℕ) (a : Result Kept Refusal) → Good s
     → a ≡ flush_answer s.ring s.head s.count most (length out)
     → left ≡ out_after s.ring s.head s.count most out
     → Step s (Flush most out left a)
@@ -148,17 +147,17 @@ kept_records_lem s (e ∷ es) g h =
     ∙ sym (append_assoc (came_out s e) (flushed (next s e) es) (in_ring (lastly (next s e) es)))
 
 -- ---- from opening on
-open_none : (ring : List ℕ) (k : Kept) → open_answer ring ≡ Keep k → (k.head ≡ 0) × (k.count ≡ 0) × (wrong_size ring ≡ false)
+open_none : (ring : List ℕ) (k : Kept) → open_answer ring ≡ Ok k → (k.head ≡ 0) × (k.count ≡ 0) × (wrong_size ring ≡ false)
 unfolding kept_unless refused_at
 open_none ring k e = by_bool (wrong_size ring) (λ t. never (open_refused ring t ∙ e)) (λ t. let p = same (open_kept ring t ∙ e) in (p.0, p.1, t))
   where
-    same : Keep (record { head = 0; count = 0 }) ≡ Keep k → (k.head ≡ 0) × (k.count ≡ 0)
+    same : ◌≡◌ {A = Result Kept Refusal} (Ok (record { head = 0; count = 0 })) (Ok k) → (k.head ≡ 0) × (k.count ≡ 0)
     same f = let q : ◌≡◌ {A = Kept} (record { head = 0; count = 0 }) k = cc in (sym (ap (λ (x : Kept). x.head) q), sym (ap (λ (x : Kept). x.count) q))
 
-    never : {A : Type 0} → NotKept (record { number = BAD_RING; place = 0 }) ≡ Keep k → A
+    never : {A : Type 0} → ◌≡◌ {A = Result Kept Refusal} (Err (record { cause = BadRing; place = 0 })) (Ok k) → A
     never f = let z : ◌≡◌ {A = ℕ} 0 1 = cc in absurd (omega arith)
 
-module _ (ring : List ℕ) (k : Kept) (o : open_answer ring ≡ Keep k) where
+module _ (ring : List ℕ) (k : Kept) (o : open_answer ring ≡ Ok k) where
   open_good : Good (opened ring k)
   unfolding opened
   open_good =

@@ -1,5 +1,6 @@
 -- The rows that were counted fit (`rows_fit`, `rows_in`), and so many can be taken (`rows_taken`).
 -- Assumes nothing.
+use Rattle.std.specs.Prelude.{Ok}
 use Prim.Native.Nat.{ℕ, ◌*◌, ◌≤◌}
 use mathlib.Core.Path.{◌≡◌, sym}
 use mathlib.Core.List.{List}
@@ -7,11 +8,10 @@ use native.Mathlib.Omega.{arith}
 use lib.Ieee.{Float}
 use lib.ListN.{length, take}
 use lib.Seq.{length-take-le}
-use Rattle.base.specs.declared.Counted.TheVariants.{Count}
 use Rattle.md_lines_meaning.specs.Burst.{answer}
 use Rattle.md_lines_meaning.proofs.Laws.EachLine.{lines_faultless}
 
-module _ (bytes : List ℕ) (threshold : Float) (classes pairs : List ℕ) (room n : ℕ) (e : answer bytes threshold classes pairs room ≡ Count n) where
+module _ (bytes : List ℕ) (threshold : Float) (classes pairs : List ℕ) (room n : ℕ) (e : answer bytes threshold classes pairs room ≡ Ok n) where
   pub rows_fit : (most : ℕ) → most ≡ room → n * 37 ≤ most
   rows_fit most m =
       let told = lines_faultless bytes threshold classes pairs room n e in

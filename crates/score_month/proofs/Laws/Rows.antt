@@ -1,16 +1,16 @@
 -- The rows that `score_lines` leaves are read by the report as what they are: a row has as many numbers (`row_words`), and the number, the ratios and the counts of a score
 -- stand where the report reads them (`reads_number`, `reads-ratios`, `reads-counts`, `reads_refusal`).
 -- Assumes nothing.
+use Rattle.std.specs.Prelude.{Ok, Err}
 use Prim.Native.Nat.{ℕ}
 use mathlib.Core.Path.{◌≡◌, refl}
 use mathlib.Core.List.{List, [], ◌∷◌}
 use Rattle.base.specs.declared.Refusal.{Refusal}
-use Rattle.base.specs.Refusals.{ACCEPTED}
+use Rattle.base.specs.Refusals.{ACCEPTED, number_of}
 use Rattle.ratio.specs.declared.EightShown.{EightShown}
 use Rattle.ratio.specs.Eight.{bits}
 use Rattle.ratio.specs.Shown.{numbers_of, shown_numbers}
 use Rattle.md_meaning.specs.declared.Score.{Score}
-use Rattle.md_meaning.specs.declared.Scored.TheVariants.{Score as Told, Refused as Unscored}
 use Rattle.md_meaning.specs.Values.{values}
 use Rattle.md_lines_meaning.specs.Burst.{NUMBERS_PER_LINE, numbers, row_numbers}
 use Rattle.md_report_meaning.specs.Rows.{WORDS, number_at, ratio_at, numerator_at, denominator_at}
@@ -18,7 +18,7 @@ use Rattle.md_report_meaning.specs.Rows.{WORDS, number_at, ratio_at, numerator_a
 pub row_words : WORDS ≡ NUMBERS_PER_LINE
 row_words = refl
 
-pub reads_refusal : (r : Refusal) → number_at (row_numbers (Unscored r)) 0 ≡ r.number
+pub reads_refusal : (r : Refusal) → number_at (row_numbers (Err r)) 0 ≡ (number_of r.cause)
 unfolding row_numbers numbers values number_at
 reads_refusal r = refl
 
@@ -38,7 +38,7 @@ counts_of c =
 module _ (s : Score) where
   -- its row
   abbrev row : List ℕ
-  row = row_numbers (Told s)
+  row = row_numbers (Ok s)
 
   pub reads_number : number_at row 0 ≡ ACCEPTED
   unfolding row_numbers numbers values number_at

@@ -6,8 +6,8 @@ use Rattle.score_month.proofs.report_lines.Goals as goal
 
 pub slice_bounds-rows-end : goal.slice_bounds-rows-end
 slice_bounds-rows-end c =
-    rows_in _ _ _ _ _ _ (sym c.score_lines.ensures.value ∙ c.in-Count.is) _ c.no_rows-rows.ensures c.score_lines.new.out (search rules)
+    rows_in _ _ _ _ _ _ (sym c.score_lines.ensures.value ∙ c.in-Ok.is) _ c.no_rows-rows.ensures c.score_lines.new.out (search rules)
 
 pub slice_bounds-report_rows-end : goal.slice_bounds-report_rows-end
 slice_bounds-report_rows-end c =
-    rows_taken _ _ _ _ _ _ (sym c.score_lines.ensures.value ∙ c.in-Count.is) _ c.no_rows-rows.ensures _ (search rules)
+    rows_taken _ _ _ _ _ _ (sym c.score_lines.ensures.value ∙ c.in-Ok.is) _ c.no_rows-rows.ensures _ (search rules)

@@ -1,4 +1,5 @@
 -- The first loop, which counts: what holds when i bytes and n code points are passed. Assumes nothing.
+use Rattle.std.specs.Prelude.{Ok, Err}
 use Prim.Native.Nat.{ℕ, ◌+◌, ◌-◌, ◌≤◌, ◌<◌}
 use mathlib.Core.Path.{◌≡◌, sym, ap, ◌∙◌}
 use mathlib.Core.List.{List, [], ◌∷◌}
@@ -8,7 +9,6 @@ use lib.ListN.{length, take, drop, length-append}
 use Rattle.utf8_table.specs.WellFormed.{Step, no_row, byte_at, step_at}
 use Rattle.utf8_table.specs.Inner.ByLead.{leads_two, leads_three, leads_four}
 use Rattle.utf8_table.proofs.Laws.Complete.{got}
-use Rattle.utf8_meaning.specs.declared.Measured.TheVariants.{Points, Fault}
 use Rattle.utf8_meaning.specs.Text.{Reading, after, text_of, fault_at}
 use Rattle.utf8_meaning.specs.Inner.Text.{from}
 use Rattle.utf8_meaning.proofs.Laws.Text.{past, from_start, from_end, is_whole, is_broken}
@@ -57,11 +57,11 @@ module _ (bytes : List ℕ) where
         let l = run_length bytes i j r in
         rw l at (passed_more (take (j - i) (drop i bytes)) j (run_text bytes i j r) r.inside (omega (arith, l, r.here)))
 
-    passed_fault : i < length bytes → step_at bytes i ≡ no_row → Fault i ≡ measured bytes
+    passed_fault : i < length bytes → step_at bytes i ≡ no_row → Err i ≡ measured bytes
     unfolding measured
     passed_fault h e =
         let s : i ≡ fault_at bytes = sym (ap (λ (r : Reading). r.stop) (from_end bytes i (ap (λ (s : Step). s.size) e))) ∙ p.stops in
-        rw (is_broken bytes (omega arith)) (ap Fault s)
+        rw (is_broken bytes (omega arith)) (ap Err s)
 
     module _ (h : i < length bytes) where
       pub passed_two : 0x80 ≤ byte_at bytes i → byte_at bytes i < 0xE0 → leads_two (byte_at bytes i) (byte_at bytes (i + 1)) ≡ true
@@ -69,7 +69,7 @@ module _ (bytes : List ℕ) where
       passed_two k l t = passed_step 2 _ (yes _ (at_two bytes i h k l) t) (omega arith)
 
       pub fault_two : 0x80 ≤ byte_at bytes i → byte_at bytes i < 0xE0 → leads_two (byte_at bytes i) (byte_at bytes (i + 1)) ≡ false
-          → Fault i ≡ measured bytes
+          → Err i ≡ measured bytes
       fault_two k l t = passed_fault h (no _ _ (at_two bytes i h k l) t)
 
       pub passed_three : 0xE0 ≤ byte_at bytes i → byte_at bytes i < 0xF0
@@ -77,7 +77,7 @@ module _ (bytes : List ℕ) where
       passed_three k l t = passed_step 3 _ (yes _ (at_three bytes i h k l) t) (omega arith)
 
       pub fault_three : 0xE0 ≤ byte_at bytes i → byte_at bytes i < 0xF0
-          → leads_three (byte_at bytes i) (byte_at bytes (i + 1)) (byte_at bytes (i + 2)) ≡ false → Fault i ≡ measured bytes
+          → leads_three (byte_at bytes i) (byte_at bytes (i + 1)) (byte_at bytes (i + 2)) ≡ false → Err i ≡ measured bytes
       fault_three k l t = passed_fault h (no _ _ (at_three bytes i h k l) t)
 
       pub passed_four : 0xF0 ≤ byte_at bytes i
@@ -87,13 +87,13 @@ module _ (bytes : List ℕ) where
 
       pub fault_four : 0xF0 ≤ byte_at bytes i
           → leads_four (byte_at bytes i) (byte_at bytes (i + 1)) (byte_at bytes (i + 2)) (byte_at bytes (i + 3)) ≡ false
-          → Fault i ≡ measured bytes
+          → Err i ≡ measured bytes
       fault_four k t = passed_fault h (no _ _ (at_four bytes i h k) t)
 
-    pub passed_end : length bytes ≤ i → Points n ≡ measured bytes
+    pub passed_end : length bytes ≤ i → Ok n ≡ measured bytes
     unfolding measured
     passed_end h =
         let e = from_end bytes i (past bytes i h) in
         let s : i ≡ fault_at bytes = sym (ap (λ (r : Reading). r.stop) e) ∙ p.stops in
         let c : n ≡ length (text_of bytes) = omega (arith, p.counts, ap (λ (r : Reading). length r.text) e) in
-        rw (is_whole bytes (omega arith)) (ap Points c)
+        rw (is_whole bytes (omega arith)) (ap Ok c)

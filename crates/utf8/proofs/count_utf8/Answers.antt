@@ -5,19 +5,19 @@ use Rattle.utf8_meaning.proofs.Laws.Answer.{fault_small, over_bytes, ill_formed_
 use Rattle.utf8.proofs.count_utf8.Goals as goal
 
 pub returns-then-bytes-gt-LONGEST_BYTES : goal.returns-then-bytes-gt-LONGEST_BYTES
-returns-then-bytes-gt-LONGEST_BYTES c = c.not_counted.ensures ∙ over_bytes _ c.if-bytes-gt-LONGEST_BYTES.true
+returns-then-bytes-gt-LONGEST_BYTES c = c.refuse.ensures ∙ over_bytes _ c.if-bytes-gt-LONGEST_BYTES.true
 
 pub overflow_cast-place : goal.overflow_cast-place
-overflow_cast-place c = let h = fault_small _ _ (sym c.in-Fault.is ∙ c.measure.ensures) in omega arith
+overflow_cast-place c = let h = fault_small _ _ (sym c.in-Err.is ∙ c.measure.ensures) in omega arith
 
 pub returns-then-count-gt-LONGEST_TEXT : goal.returns-then-count-gt-LONGEST_TEXT
 returns-then-count-gt-LONGEST_TEXT c =
-    c.not_counted-then-count-gt-LONGEST_TEXT.ensures ∙ over_points _ c.if-bytes-gt-LONGEST_BYTES.false _ (sym c.in-Points.is ∙ c.measure.ensures) c.if-count-gt-LONGEST_TEXT.true
+    c.refuse-then-count-gt-LONGEST_TEXT.ensures ∙ over_points _ c.if-bytes-gt-LONGEST_BYTES.false _ (sym c.in-Ok.is ∙ c.measure.ensures) c.if-count-gt-LONGEST_TEXT.true
 
-pub returns-in-Fault : goal.returns-in-Fault
-returns-in-Fault c =
-    c.not_counted-in-Fault.ensures ∙ ill_formed_lem _ c.if-bytes-gt-LONGEST_BYTES.false _ (sym c.in-Fault.is ∙ c.measure.ensures)
+pub returns-in-Err : goal.returns-in-Err
+returns-in-Err c =
+    c.refuse-in-Err.ensures ∙ ill_formed_lem _ c.if-bytes-gt-LONGEST_BYTES.false _ (sym c.in-Err.is ∙ c.measure.ensures)
 
 pub returns-else-count-gt-LONGEST_TEXT : goal.returns-else-count-gt-LONGEST_TEXT
 returns-else-count-gt-LONGEST_TEXT c =
-    counts _ c.if-bytes-gt-LONGEST_BYTES.false _ (sym c.in-Points.is ∙ c.measure.ensures) c.if-count-gt-LONGEST_TEXT.false
+    counts _ c.if-bytes-gt-LONGEST_BYTES.false _ (sym c.in-Ok.is ∙ c.measure.ensures) c.if-count-gt-LONGEST_TEXT.false

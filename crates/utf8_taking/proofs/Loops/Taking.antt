@@ -1,4 +1,5 @@
 -- The one pass: what holds when the bytes up to a place are taken, one sequence more, a run of ASCII more, and two parts that follow each other. Assumes nothing.
+use Rattle.std.specs.Prelude.{Ok, Err}
 use Prim.Native.Nat.{ℕ, ◌+◌, ◌-◌, ◌*◌, ◌/◌, ◌≤◌, ◌<◌}
 use mathlib.Core.Path.{◌≡◌, refl, sym, ap, subst, ◌∙◌}
 use mathlib.Core.List.{List, [], ◌∷◌, ◌++◌, append_assoc, append-nil}
@@ -16,7 +17,6 @@ use Rattle.base.proofs.Laws.Tests.{and_l, split}
 use Rattle.utf8_table.specs.WellFormed.{Step, two, point_of_two, point_of_three, point_of_four, no_row, byte_at, continues, step_at}
 use Rattle.utf8_table.specs.Inner.ByLead.{leads_two, leads_three, leads_four}
 use Rattle.utf8_table.proofs.Laws.Complete.{got}
-use Rattle.utf8_meaning.specs.declared.Measured.TheVariants.{Points, Fault}
 use Rattle.utf8_meaning.specs.Text.{Reading, ended, after, reading, text_of, fault_at}
 use Rattle.utf8_meaning.specs.Inner.Text.{from}
 use Rattle.utf8_meaning.specs.Inner.Answer.{measured}
@@ -200,27 +200,7 @@ module _ (bytes : List ℕ) where
   -- ---- sequences of two that are looked at together, from the last to the first: those from j on that stand before `first` are such
   pub record Backward (i first j : ℕ) : Type 0 where
     pub few : first ≤ AHEAD
-    pub left : j ≤ AHEAD
     pub each : (k : ℕ) → j ≤ k → k < first → step_at bytes (i + 2 * k) ≡ two (byte_at bytes (i + 2 * k)) (byte_at bytes (i + 2 * k + 1))
-
-  module _ (i : ℕ) where
-    pub backward_start : Backward i AHEAD AHEAD
-    backward_start = record { few = omega arith; left = omega arith; each = λ k a b. absurd (omega arith) }
-
-    module _ (first j : ℕ) (s : Backward i first j) (h : 0 < j) where
-      pub backward_stands : step_at bytes (i + 2 * (j - 1)) ≡ two (byte_at bytes (i + 2 * (j - 1))) (byte_at bytes (i + 2 * (j - 1) + 1)) → Backward i first (j - 1)
-      backward_stands e =
-          record {
-            few = s.few;
-            left = omega (arith, s.left);
-            each = λ k a b. split k j (λ m. let q : k ≡ j - 1 = omega arith in rw q e) (λ m. s.each k m b);
-          }
-
-      pub backward_ends : Backward i (j - 1) (j - 1)
-      backward_ends = record { few = omega (arith, s.left); left = omega (arith, s.left); each = λ k a b. absurd (omega arith) }
-
-    pub backward_twos : (first j : ℕ) → Backward i first j → j ≡ 0 → Twos bytes i first
-    backward_twos first j s e = record { few = s.few; each = λ k b. s.each k (omega (arith, e)) b }
 
   -- ---- what they are as code points: those of the first j that stand are taken
   module _ (old : List ℕ) (i n : ℕ) where
@@ -330,20 +310,20 @@ module _ (bytes : List ℕ) where
       pub taken_text : take (length (text_of bytes)) out ≡ text_of bytes
       taken_text = ap (λ (m : ℕ). take m out) (sym count_is) ∙ t.front ∙ sym points_are
 
-    taken_fault : i < length bytes → step_at bytes i ≡ no_row → (Fault i ≡ measured bytes) × (take (length (text_of bytes)) out ≡ text_of bytes)
+    taken_fault : i < length bytes → step_at bytes i ≡ no_row → (Err i ≡ measured bytes) × (take (length (text_of bytes)) out ≡ text_of bytes)
     unfolding measured
     taken_fault h e =
         let z : (step_at bytes i).size ≡ 0 = ap (λ (s : Step). s.size) e in
-        (rw (is_broken bytes (omega (arith, h, stop_is z))) (ap Fault (sym (stop_is z))), taken_text z)
+        (rw (is_broken bytes (omega (arith, h, stop_is z))) (ap Err (sym (stop_is z))), taken_text z)
 
-    pub taken_end : length bytes ≤ i → (Points n ≡ measured bytes) × (take (length (text_of bytes)) out ≡ text_of bytes)
+    pub taken_end : length bytes ≤ i → (Ok n ≡ measured bytes) × (take (length (text_of bytes)) out ≡ text_of bytes)
     unfolding measured
     taken_end h =
         let z = past bytes i h in
-        (rw (is_whole bytes (omega (arith, h, stop_is z))) (ap Points (count_is z)), taken_text z)
+        (rw (is_whole bytes (omega (arith, h, stop_is z))) (ap Ok (count_is z)), taken_text z)
 
   -- where a turn takes nothing, the first fault stands
   pub taken_stop : (old out : List ℕ) (i n : ℕ) → Taken bytes old out 0 0 i n → (last : List ℕ) (j m : ℕ) → Took bytes out last i n j m → j ≡ i → i < length bytes
-      → (Fault i ≡ measured bytes) × (take (length (text_of bytes)) last ≡ text_of bytes)
+      → (Err i ≡ measured bytes) × (take (length (text_of bytes)) last ≡ text_of bytes)
   taken_stop old out i n t last j m u e h =
       taken_fault old last i m (subst (λ (x : ℕ). Taken bytes old last 0 0 x m) e (taken_join old out 0 0 i n t last j m u.taken)) h (u.none e)

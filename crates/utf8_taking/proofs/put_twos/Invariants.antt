@@ -1,10 +1,5 @@
-use Prim.Native.Nat.{◌-◌}
-use Rattle.utf8_taking.specs.Inner.Taking.{AHEAD}
 use Rattle.utf8_taking.proofs.Loops.Taking.{Placed}
 use Rattle.utf8_taking.proofs.put_twos.Given as goal
 
 abbrev pub invariant-loop-j : goal.invariant-loop-j
 invariant-loop-j l = Placed l.bytes l.initial.out l.from l.to l.out l.j
-
-abbrev pub decreases-loop-j : goal.decreases-loop-j
-decreases-loop-j l = AHEAD - l.j

@@ -3,6 +3,3 @@ use Rattle.utf8_taking.proofs.twos_ahead.Given as goal
 
 abbrev pub invariant-loop-j : goal.invariant-loop-j
 invariant-loop-j l = Backward l.bytes l.from l.first l.j
-
-abbrev pub decreases-loop-j : goal.decreases-loop-j
-decreases-loop-j l = l.j

@@ -2,6 +2,7 @@
 -- gives the text; writing a well-formed input's reading gives its bytes"). `written_read`: what was written for a text, read, is that text, and the
 -- reader accepts it wherever it has room for the text. `read_written`: what was read from bytes, written, is those bytes, and the writer accepts it
 -- wherever it has room for the bytes. Assumes nothing.
+use Rattle.std.specs.Prelude.{Ok}
 use Prim.Native.Nat.{ℕ, ◌≤◌}
 use mathlib.Core.Path.{◌≡◌, refl, sym, ap, subst, ◌∙◌}
 use mathlib.Core.List.{List, ◌++◌}
@@ -9,7 +10,6 @@ use mathlib.Core.Bool.{true}
 use native.Mathlib.Omega.{arith}
 use lib.ListN.{length, take, drop}
 use lib.Seq.{take-append_seam}
-use Rattle.base.specs.declared.Counted.TheVariants.{Count}
 use Rattle.base.specs.Limits.{LONGEST_TEXT}
 use Rattle.base.specs.Put.{put}
 use Rattle.base.proofs.Laws.Causes.{first_free}
@@ -30,16 +30,16 @@ front : (out l : List ℕ) → take (length l) (put out 0 l) ≡ l
 front out l = ap (take (length l)) (put_first out l) ∙ take-append_seam l (drop (length l) out)
 
 -- the bytes that an accepted call left, cut to its count, are the encodings of the text, one after the other
-pub written_bytes : (text out : List ℕ) (n : ℕ) → answer text (length out) ≡ Count n → take n (out_after text out) ≡ encode_all text
+pub written_bytes : (text out : List ℕ) (n : ℕ) → answer text (length out) ≡ Ok n → take n (out_after text out) ≡ encode_all text
 written_bytes text out n e =
     let a = accepted text (length out) n e in
     let w = writes text out a.short a.scalar (omega (arith, a.count, a.fits)) in
     let l : n ≡ length (encode_all text) = a.count in
     rw (← w.1, l) (front out (encode_all text))
 
-pub written_read : (text out : List ℕ) (n : ℕ) → answer text (length out) ≡ Count n
+pub written_read : (text out : List ℕ) (n : ℕ) → answer text (length out) ≡ Ok n
     → (room : List ℕ) → length text ≤ length room
-    → (read.answer (take n (out_after text out)) (length room) ≡ Count (length text)) × (read.out_after (take n (out_after text out)) room ≡ put room 0 text)
+    → (read.answer (take n (out_after text out)) (length room) ≡ Ok (length text)) × (read.out_after (take n (out_after text out)) room ≡ put room 0 text)
 written_read text out n e room h =
     let a = accepted text (length out) n e in
     let r = encoded_accepted text a.scalar a.short room h in
@@ -51,7 +51,7 @@ record Got (bytes room : List ℕ) (n : ℕ) : Type 0 where
   pub text : take n (read.out_after bytes room) ≡ text_of bytes
 
 -- what a reading left, cut to its count, is the text of its bytes
-read_text : (bytes room : List ℕ) (n : ℕ) → read.answer bytes (length room) ≡ Count n → Got bytes room n
+read_text : (bytes room : List ℕ) (n : ℕ) → read.answer bytes (length room) ≡ Ok n → Got bytes room n
 unfolding read.answer read.causes read.out_after
 read_text bytes room n e =
     let a = count_allowed (read.causes bytes (length room)) (length (text_of bytes)) n e in
@@ -64,13 +64,13 @@ read_text bytes room n e =
       text = ap (take n) (after_allowed (text_of bytes) room _ a) ∙ ap (λ (m : ℕ). take m (put room 0 (text_of bytes))) k ∙ front room (text_of bytes);
     }
 
-pub read_written : (bytes room : List ℕ) (n : ℕ) → read.answer bytes (length room) ≡ Count n
+pub read_written : (bytes room : List ℕ) (n : ℕ) → read.answer bytes (length room) ≡ Ok n
     → (out : List ℕ) → length bytes ≤ length out
-    → (answer (take n (read.out_after bytes room)) (length out) ≡ Count (length bytes)) × (out_after (take n (read.out_after bytes room)) out ≡ put out 0 bytes)
+    → (answer (take n (read.out_after bytes room)) (length out) ≡ Ok (length bytes)) × (out_after (take n (read.out_after bytes room)) out ≡ put out 0 bytes)
 read_written bytes room n e out h =
     let g = read_text bytes room n e in
     let r = g.readable in
     let w : encode_all (text_of bytes) ≡ bytes = well_formed_encoded bytes r.whole in
     let k : length (encode_all (text_of bytes)) ≤ length out = rw w h in
-    let d : Ends (text_of bytes) out (Count (length bytes)) (put out 0 bytes) = rw w at (writes (text_of bytes) out r.few (text_scalars bytes) k) in
+    let d : Ends (text_of bytes) out (Ok (length bytes)) (put out 0 bytes) = rw w at (writes (text_of bytes) out r.few (text_scalars bytes) k) in
     rw g.text (sym d.0, sym d.1)

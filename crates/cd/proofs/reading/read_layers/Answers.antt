@@ -1,19 +1,10 @@
 -- After k layers the standing is what those layers come to, the numbers and letters stand as they stood, and each layer has added at most MOST-INCLUDED
 -- sufficient matches. Assumes nothing.
-use native.Mathlib.Omega.{arith}
 use Rattle.cd_meaning.proofs.Laws.Reading.{read_start, read_room, read_undotted, read_more, read_bound, read_end}
 use Rattle.cd.proofs.reading.read_layers.Goals as goal
 
 pub loop-k-init : goal.loop-k-init
 loop-k-init c = rw c.start-s.ensures (read_start _ _ _ _ _ _ _ _)
-
-pub overflow_add-k : goal.overflow_add-k
-overflow_add-k c =
-    omega (arith, c.loop-k-test.true, c.requires.3)
-
-pub overflow_cast-k : goal.overflow_cast-k
-overflow_cast-k c =
-    omega (arith, c.loop-k-test.true, c.requires.3)
 
 pub read_layer-s-requires : goal.read_layer-s-requires
 read_layer-s-requires c = (
@@ -26,10 +17,6 @@ read_layer-s-requires c = (
 pub loop-k-preserved : goal.loop-k-preserved
 loop-k-preserved c =
     read_more _ _ _ _ _ _ _ _ c.loop-k.invariant c.requires.0 c.loop-k-test.true _ _ c.read_layer-s.ensures.1 c.read_layer-s.ensures.0
-
-pub shape_of-work : goal.shape_of-work
-shape_of-work c =
-    c.loop-k.invariant.kept.size
 
 pub returns : goal.returns
 returns c =

@@ -1,9 +1,5 @@
-use Prim.Native.Nat.{◌-◌}
 use Rattle.cd_meaning.proofs.Laws.Reading.{Reading}
 use Rattle.cd.proofs.reading.read_layers.Given as goal
 
 abbrev pub invariant-loop-k : goal.invariant-loop-k
 invariant-loop-k l = Reading l.threshold l.small l.classes l.languages l.included l.slots l.initial.work l.count l.work l.s l.k
-
-abbrev pub decreases-loop-k : goal.decreases-loop-k
-decreases-loop-k l = l.count - l.k

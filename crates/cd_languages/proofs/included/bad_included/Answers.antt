@@ -2,7 +2,7 @@
 -- Assumes nothing.
 use mathlib.Core.Path.{sym, ap, ◌∙◌}
 use Rattle.base.specs.Causes.{refused_at}
-use Rattle.base.specs.Refusals.{BAD_INCLUDED}
+use Rattle.base.specs.declared.refusals.Cause.TheVariants.{BadIncluded}
 use Rattle.cd_languages.proofs.Laws.Included.{over_refused, lone_allowed, number_refused, none_missing}
 use Rattle.cd_languages.proofs.included.bad_included.Goals as goal
 
@@ -14,7 +14,7 @@ returns-then-lone_zero c = sym (lone_allowed _ _ c.if-n-gt-MOST_INCLUDED.false (
 
 pub returns-then-missing-n : goal.returns-then-missing-n
 returns-then-missing-n c =
-    c.refuse-then-missing-n.ensures ∙ ap (refused_at BAD_INCLUDED) c.first_missing-missing.ensures
+    c.refuse-then-missing-n.ensures ∙ ap (refused_at BadIncluded) c.first_missing-missing.ensures
     ∙ sym (number_refused _ _ c.if-n-gt-MOST_INCLUDED.false (sym c.lone_zero.ensures ∙ c.if-lone_zero.false) (rw c.first_missing-missing.ensures at c.if-missing-n.true))
 
 pub returns : goal.returns

@@ -1,4 +1,4 @@
-use Prim.Native.Nat.{◌-◌, ◌≤◌}
+use Prim.Native.Nat.{◌≤◌}
 use mathlib.Core.Bool.{not}
 use lib.ListN.{length, get_or}
 use mathlib.Core.Path.{◌≡◌}
@@ -8,6 +8,3 @@ use Rattle.cd_languages.proofs.included.first_missing.Given as goal
 
 abbrev pub invariant-loop-i : goal.invariant-loop-i
 invariant-loop-i l = (l.i ≤ length l.included) × (first_from (λ j. not (in_table l.languages (get_or l.included j 0))) (length l.included) l.i ≡ first_missing l.included l.languages)
-
-abbrev pub decreases-loop-i : goal.decreases-loop-i
-decreases-loop-i l = length l.included - l.i

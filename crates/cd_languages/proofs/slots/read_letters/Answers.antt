@@ -20,9 +20,6 @@ below t i n k e h = omega (arith, letters_length t i)
 ended : (t : List ℕ) (i n k : ℕ) → n ≡ letter_count t i → n ≤ k → length (letters_of t i) ≤ k
 ended t i n k e h = omega (arith, letters_length t i)
 
-pub count_at-n-requires : goal.count_at-n-requires
-count_at-n-requires c = c.requires.1
-
 pub loop-k-init : goal.loop-k-init
 loop-k-init c =
     let most = (good_fields_lem c.args.t.now c.requires.0 c.args.i c.requires.1).most in
@@ -36,12 +33,6 @@ pub bounds-out-k : goal.bounds-out-k
 bounds-out-k c =
     let room = putting_room _ 0 _ c.loop-k.invariant (below _ _ _ _ c.count_at-n.ensures c.loop-k-test.true) in
     rw (zero-add c.loop-k.k) at room
-
-pub overflow_add-k : goal.overflow_add-k
-overflow_add-k c = omega arith
-
-pub loop-k-smaller : goal.loop-k-smaller
-loop-k-smaller c = omega arith
 
 pub loop-k-preserved : goal.loop-k-preserved
 loop-k-preserved c =

@@ -1,17 +1,24 @@
--- No length before i is over 63 (`Within`). Assumes nothing.
-use Rattle.cd_merge.proofs.Loops.Lengths.{within_start, within_hit, within_more, within_end}
+-- What the call says of some length over 63, and what the definition says. Assumes nothing.
+use Rattle.std.proofs.Common.{ℕ, ◌<◌, ◌≤◌, Bool, true, false, ltb, List, length, Decides, MatchBool, refl, arith, rules, tests}
+use Rattle.std.specs.List.{HoldsAt, AllWithin}
+use Rattle.std.proofs.lemmas.Iterator.{cases_from_any, YieldsList-from_slice}
+use Rattle.std.proofs.lemmas.Bool.{false≢true}
+use Rattle.std.proofs.lemmas.Bool.Decides.{same_from_decides, Decides-by_or, Decides-ltb}
+use Rattle.cd_merge_meaning.specs.Answer.{LONGEST_RANKING, over}
 use Rattle.cd_merge.proofs.check.any_over.Goals as goal
 
-pub loop-i-init : goal.loop-i-init
-loop-i-init c = within_start _
+abbrev SomeOver : List ℕ → Type 0
+SomeOver l = (k : ℕ) × (k < length l) × HoldsAt (λ n. LONGEST_RANKING < n) l k
 
-pub returns-then-lengths-i-gt-LONGEST_RANKING : goal.returns-then-lengths-i-gt-LONGEST_RANKING
-returns-then-lengths-i-gt-LONGEST_RANKING c =
-    within_hit _ c.loop-i.invariant c.loop-i-test.true c.if-lengths-i-gt-LONGEST_RANKING.true
-
-pub loop-i-preserved : goal.loop-i-preserved
-loop-i-preserved c =
-    within_more _ c.loop-i.invariant c.loop-i-test.true c.if-lengths-i-gt-LONGEST_RANKING.false
+by_cases : (r : Bool) (l : List ℕ) → MatchBool r (SomeOver l) (AllWithin (λ n. n ≤ LONGEST_RANKING) l 0 (length l)) → Decides r (SomeOver l)
+by_cases true l h = (λ _. h, λ _. refl)
+by_cases false l h = (λ e. absurd (false≢true e), λ w. absurd (omega (arith, h w.0 0 (omega arith) w.1, w.2 0)))
 
 pub returns : goal.returns
-returns c = within_end _ c.loop-i.invariant c.loop-i-test.false
+unfolding over
+returns c =
+    let l = c.args.lengths.now in
+    let called = cases_from_any _ _ _ (λ n. LONGEST_RANKING < n) (λ n. n ≤ LONGEST_RANKING) c.any.ensures.ran (YieldsList-from_slice l cc)
+    (λ x q k. search (rules, tests)) (λ x q k. search (rules, tests)) in
+    let meant = Decides-by_or (ltb LONGEST_RANKING) (λ n. LONGEST_RANKING < n) over (Decides-ltb LONGEST_RANKING) refl (λ _ _. refl) l in
+    same_from_decides _ (over l) (by_cases _ l called) meant

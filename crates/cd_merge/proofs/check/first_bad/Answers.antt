@@ -1,8 +1,9 @@
 -- The walk has passed only scores from 0 to 1. Assumes nothing.
-use mathlib.Core.Path.{sym, ap, ◌∙◌}
+use mathlib.Core.Path.{◌≡◌, sym, ap, ◌∙◌}
 use mathlib.Core.Bool.{not}
 use native.Mathlib.Omega.{arith}
 use Rattle.base.proofs.Laws.First.{first_start, first_hit, first_miss, first_end}
+use Rattle.cd_merge_meaning.specs.Entries.{entries}
 use Rattle.cd_merge_meaning.specs.Answer.{first_bad}
 use Rattle.cd_merge.proofs.check.first_bad.Goals as goal
 
@@ -23,4 +24,5 @@ loop-i-preserved c = (
 
 pub returns : goal.returns
 returns c =
-    sym (first_end _ _ _ (omega (arith, c.entries-n.ensures, c.loop-i-test.false, c.loop-i.invariant.0))) ∙ c.loop-i.invariant.1
+    let e : c.loop-i.i ≡ entries c.args.list.now = omega (arith, c.entries-n.ensures, c.loop-i-test.false, c.loop-i.invariant.0) in
+    c.entries-n.ensures ∙ sym e ∙ sym (first_end _ _ _ e) ∙ c.loop-i.invariant.1

@@ -1,15 +1,10 @@
 -- No entry before k has the language of the entry i (`Finding`). Assumes nothing.
 use mathlib.Core.Path.{sym, ◌∙◌}
-use native.Mathlib.Omega.{arith}
 use Rattle.cd_merge.proofs.Loops.Finding.{finding_start, finding_hit, finding_miss, finding_end}
 use Rattle.cd_merge.proofs.means.is_first.Goals as goal
 
 pub loop-k-init : goal.loop-k-init
 loop-k-init c = finding_start
-
-pub language_at-requires : goal.language_at-requires
-language_at-requires c =
-    omega (arith, c.loop-k-test.true, c.requires)
 
 pub returns-then-language_at-language : goal.returns-then-language_at-language
 returns-then-language_at-language c =

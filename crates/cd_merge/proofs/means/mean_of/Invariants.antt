@@ -1,10 +1,5 @@
-use Prim.Native.Nat.{◌-◌}
-use Rattle.cd_merge_meaning.specs.Entries.{entries}
 use Rattle.cd_merge.proofs.Loops.Summing.{Summing}
 use Rattle.cd_merge.proofs.means.mean_of.Given as goal
 
 abbrev pub invariant-loop-i : goal.invariant-loop-i
 invariant-loop-i l = Summing l.list l.language l.sum l.count l.i
-
-abbrev pub decreases-loop-i : goal.decreases-loop-i
-decreases-loop-i l = entries l.list - l.i

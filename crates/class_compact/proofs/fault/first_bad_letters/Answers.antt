@@ -8,9 +8,6 @@ use Rattle.class_compact.proofs.fault.first_bad_letters.Goals as goal
 pub loop-k-init : goal.loop-k-init
 loop-k-init c = (seeking_start _ _, omega arith)
 
-pub bad_letters-requires : goal.bad_letters-requires
-bad_letters-requires c = omega arith
-
 pub returns-then-bad_letters : goal.returns-then-bad_letters
 unfolding first_bad_letters
 returns-then-bad_letters c =
@@ -25,4 +22,4 @@ loop-k-preserved c = (
 
 pub returns : goal.returns
 unfolding first_bad_letters
-returns c = record { is = seeking_end _ _ c.loop-k.invariant.0 c.loop-k-test.false; small = c.loop-k.invariant.1 }
+returns c = record { is = seeking_end _ _ c.loop-k.invariant.0 c.loop-k-test.false; small = omega (arith, c.loop-k.invariant.1) }

@@ -3,14 +3,10 @@ use Rattle.class_compact.proofs.Loops.Seeking.{seeking_start, seeking_hit, seeki
 use Rattle.class_compact_meaning.specs.Check.{missing}
 use Rattle.class_compact_meaning.specs.Inner.Sound.{first_missing}
 use borrow.Author.Tests.{lt-ltb, le-ltb}
-use native.Mathlib.Omega.{arith}
 use Rattle.class_compact.proofs.fault.first_unlettered.Goals as goal
 
 pub loop-i-init : goal.loop-i-init
 loop-i-init c = seeking_start _ _
-
-pub place_of-requires : goal.place_of-requires
-place_of-requires c = omega arith
 
 pub returns-then-m-place_of : goal.returns-then-m-place_of
 unfolding missing first_missing

@@ -1,5 +1,4 @@
 -- No record before i uses the place; and where one does, it has 16 bits as every place has. Assumes nothing.
-use Prim.Native.Nat.{ℕ, ◌<◌}
 use Rattle.class_compact.proofs.Loops.Seeking.{seeking_start, seeking_hit, seeking_more, seeking_end}
 use Rattle.class_compact_meaning.specs.Check.{first_use}
 use borrow.Author.Tests.{eq-eqb, ne_eqb}
@@ -8,9 +7,6 @@ use Rattle.class_compact.proofs.fault.first_use.Goals as goal
 
 pub loop-i-init : goal.loop-i-init
 loop-i-init c = seeking_start _ _
-
-pub place_of-requires : goal.place_of-requires
-place_of-requires c = omega arith
 
 pub returns-then-place_of-place : goal.returns-then-place_of-place
 unfolding first_use
@@ -23,12 +19,6 @@ returns-then-place_of-place c =
 pub loop-i-preserved : goal.loop-i-preserved
 loop-i-preserved c =
     seeking_more _ _ c.loop-i.invariant c.loop-i-test.true (rw (← c.place_of.ensures.is) (ne_eqb _ _ c.if-place_of-place.false))
-
-none : {A : Type 0} (i n : ℕ) → n < i → i < n → A
-none i n h k = absurd (no h k)
-  where
-    no : n < i → i < n → ⊥
-    no a b = omega arith
 
 pub returns : goal.returns
 unfolding first_use

@@ -1,17 +1,10 @@
 -- No letters before k are these. Assumes nothing.
 use Rattle.class_compact.proofs.Loops.Seeking.{seeking_start, seeking_hit, seeking_more, seeking_end}
 use Rattle.class_compact_meaning.specs.Check.{letters_are}
-use native.Mathlib.Omega.{arith}
 use Rattle.class_compact.proofs.form.find_letters.Goals as goal
 
 pub loop-k-init : goal.loop-k-init
 loop-k-init c = seeking_start _ _
-
-pub base_at-requires : goal.base_at-requires
-base_at-requires c = omega arith
-
-pub lower_at-requires : goal.lower_at-requires
-lower_at-requires c = omega arith
 
 pub returns-then-base_at-base : goal.returns-then-base_at-base
 unfolding letters_are

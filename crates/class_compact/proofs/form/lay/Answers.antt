@@ -1,19 +1,20 @@
--- After k turns the first k bytes stand in the output from `at` on. Assumes nothing.
-use Rattle.base.proofs.Loops.Putting.{putting_start, putting_length, putting_room, putting_more, putting_end}
-use mathlib.Core.Path.{refl}
+-- The part of the output from `at` on that is as long as the bytes gets them, so the whole gets them at `at`. Assumes nothing.
+use native.Mathlib.Omega.{arith}
+use mathlib.Core.Path.{◌≡◌, refl}
+use mathlib.Core.List.{List}
+use Prim.Native.Nat.{ℕ, ◌+◌, ◌-◌}
+use lib.ListN.{length}
+use lib.Seq.{drop-drop}
+use borrow.Rule.Slice.PartMut.{put_mid}
+use Rattle.base.specs.Put.{put}
 use Rattle.class_compact.proofs.form.lay.Goals as goal
 
-pub loop-k-init : goal.loop-k-init
-loop-k-init c = putting_start _ _ _ c.requires
-
-pub bounds-out-at : goal.bounds-out-at
-bounds-out-at c = putting_room _ _ _ c.loop-k.invariant c.loop-k-test.true
-
-pub loop-k-preserved : goal.loop-k-preserved
-loop-k-preserved c = putting_more _ _ _ c.loop-k.invariant c.loop-k-test.true 0 _ refl
-
-pub shape_of-out : goal.shape_of-out
-shape_of-out c = putting_length _ _ _ c.loop-k.invariant
+-- the bytes, put back into the whole
+part_put : (b p : List ℕ) (at : ℕ) → put_mid at (at + length p - at) b p ≡ put b at p
+unfolding put
+part_put b p at =
+    let e : at + length p - at ≡ length p = omega arith in
+    rw (e, drop-drop (length p) at b) refl
 
 pub returns : goal.returns
-returns c = putting_end _ _ _ c.loop-k.invariant c.loop-k-test.false
+returns c = rw c.copy_from_slice.ensures.after (part_put _ _ _)

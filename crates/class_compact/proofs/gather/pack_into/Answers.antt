@@ -1,6 +1,6 @@
 -- The first i records stand in the one room, and the letters that they use in the other, all of them noted. Assumes nothing.
-use Rattle.class_compact.proofs.Loops.Gathering.{gathering_start, gathering_length, gathering_placed, gathering_more, gathered_records, gathered_letters, gathered_number}
-use Rattle.class_compact.proofs.Loops.Laying.{laying_length, laying_room}
+use Rattle.class_compact.proofs.Loops.Gathering.{gathering_start, gathering_placed, gathering_more, gathered_records, gathered_letters, gathered_number}
+use Rattle.class_compact.proofs.Loops.Laying.{laying_room}
 use Rattle.class_compact.proofs.gather.pack_into.Goals as goal
 
 pub loop-i-init : goal.loop-i-init
@@ -14,14 +14,6 @@ gather_record-count-requires c =
 pub loop-i-preserved : goal.loop-i-preserved
 loop-i-preserved c =
     gathering_more _ _ _ c.loop-i.invariant c.loop-i-test.true _ _ _ _ c.gather_record-count.ensures
-
-pub shape_of-packed : goal.shape_of-packed
-shape_of-packed c =
-    laying_length _ _ _ _ c.loop-i.invariant.laid
-
-pub shape_of-used : goal.shape_of-used
-shape_of-used c =
-    gathering_length _ _ _ c.loop-i.invariant
 
 pub returns : goal.returns
 returns c =

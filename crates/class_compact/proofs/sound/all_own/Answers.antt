@@ -1,16 +1,11 @@
 -- The letters before k are their own and noted. Assumes nothing.
 use Rattle.class_compact_meaning.proofs.Laws.Own.{owning_start, owning_more, owning_end, owning_fails}
 use mathlib.Core.Path.{sym, ◌∙◌}
-use native.Mathlib.Omega.{arith}
 use Rattle.class_compact.proofs.sound.all_own.Goals as goal
 
 pub loop-k-init : goal.loop-k-init
 loop-k-init c =
     owning_start _
-
-pub is_own-requires : goal.is_own-requires
-is_own-requires c =
-    (c.loop-k-test.true, omega (arith, c.loop-k-test.true, c.requires), c.loop-k.invariant.linked)
 
 pub returns-then-not-is_own : goal.returns-then-not-is_own
 returns-then-not-is_own c =

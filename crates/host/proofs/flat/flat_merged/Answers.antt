@@ -1,9 +1,12 @@
--- One law for each case of the answer. Assumes nothing.
-use Rattle.host.proofs.Laws.Matches.{merged_refused, merged_count}
+-- One case of the answer each. Assumes nothing.
+use Rattle.base.specs.Counted.{values}
+use Rattle.host.specs.Matches.{host_merged}
 use Rattle.host.proofs.flat.flat_merged.Goals as goal
 
-pub returns-in-Refused : goal.returns-in-Refused
-returns-in-Refused c = merged_refused _ _ c.in-Refused.is
+pub returns-in-Err : goal.returns-in-Err
+unfolding host_merged values
+returns-in-Err c = rw (c.in-Err.is, c.number.ensures)
 
-pub returns-in-Count : goal.returns-in-Count
-returns-in-Count c = merged_count _ _ c.in-Count.is
+pub returns-in-Ok : goal.returns-in-Ok
+unfolding host_merged values
+returns-in-Ok c = rw c.in-Ok.is

@@ -2,11 +2,7 @@
 use native.Mathlib.Omega.{arith}
 use Rattle.classes.proofs.Laws.Lookup.{class_builtin, class_lent}
 use Rattle.md_meaning.specs.Scan.{class_at}
-use borrow.Author.Rules.{rules}
 use Rattle.md.proofs.scan.class_at.Goals as goal
-
-pub builtin_class-requires : goal.builtin_class-requires
-builtin_class-requires c = search rules
 
 pub returns-then-p-lt-BUILTIN_END : goal.returns-then-p-lt-BUILTIN_END
 unfolding class_at

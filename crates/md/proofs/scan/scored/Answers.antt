@@ -3,8 +3,5 @@ use mathlib.Core.Path.{◌∙◌}
 use Rattle.md_meaning.proofs.Laws.Scan.{answered_state}
 use Rattle.md.proofs.scan.scored.Goals as goal
 
-pub answered-requires : goal.answered-requires
-answered-requires c = rw c.counts.ensures c.requires
-
 pub returns : goal.returns
 returns c = c.answered.ensures ∙ answered_state _ _ _ _ c.counts.ensures

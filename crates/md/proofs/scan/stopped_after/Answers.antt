@@ -2,14 +2,10 @@
 use mathlib.Core.Path.{◌∙◌}
 use Rattle.md.proofs.Loops.Going.{stopped_missing, stopped_scored}
 use Rattle.md_meaning.proofs.Laws.Scan.{answered_state}
-use borrow.Author.Rules.{rules}
 use Rattle.md.proofs.scan.stopped_after.Goals as goal
 
-pub answered-requires : goal.answered-requires
-answered-requires c = rw c.counts.ensures (search rules)
-
 pub returns-then-bad-text : goal.returns-then-bad-text
-returns-then-bad-text c = c.unscored.ensures ∙ stopped_missing _ _ _ _ _ c.unclassed_rest-bad.ensures c.if-bad-text.true
+returns-then-bad-text c = c.refuse.ensures ∙ stopped_missing _ _ _ _ _ c.unclassed_rest-bad.ensures c.if-bad-text.true
 
 pub returns : goal.returns
 returns c =

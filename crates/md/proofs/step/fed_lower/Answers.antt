@@ -22,11 +22,6 @@ lower_run-t-requires c =
       omega (arith, ended.ensures.ends, asked.0.short),
     )
 
-pub before_space-requires : goal.before_space-requires
-before_space-requires c =
-    let ended = c.run_end-next in
-    omega (arith, ended.ensures.begins)
-
 pub space-requires : goal.space-requires
 space-requires c =
     let ended = c.run_end-next in
@@ -34,12 +29,6 @@ space-requires c =
     let step = lower_step _ _ _ _ _ _ asked.0 asked.1 asked.2 _ ended.ensures _ _ _ c.last_range.ensures
     c.is_suspicious-suspicious.ensures c.is_suspicious-again.ensures _ c.lower_run-t.ensures in
     spaced_room _ _ _ _ _ asked.0.tables asked.0.short step (c.before_space.ensures c.if-before_space.true)
-
-pub overflow_add-result : goal.overflow_add-result
-overflow_add-result c =
-    let asked = c.requires in
-    let spaced = c.before_space.ensures c.if-before_space.true in
-    omega (arith, spaced.inside, asked.0.short)
 
 pub returns-then-before_space : goal.returns-then-before_space
 returns-then-before_space c =

@@ -1,12 +1,10 @@
 -- By the length. Assumes nothing.
-use Rattle.base.specs.Causes.{refused_at}
-use Rattle.md_compact.proofs.Laws.Either.{text_long, text_fits}
 use mathlib.Core.Path.{◌∙◌}
+use Rattle.md_compact.proofs.Laws.Either.{text_long, text_fits}
 use Rattle.md_compact.proofs.first.first_of_text.Goals as goal
 
 pub returns-then-text-gt-LONGEST_TEXT : goal.returns-then-text-gt-LONGEST_TEXT
-unfolding refused_at
-returns-then-text-gt-LONGEST_TEXT c = text_long _ _ _ c.if-text-gt-LONGEST_TEXT.true
+returns-then-text-gt-LONGEST_TEXT c = c.refuse.ensures ∙ text_long _ _ c.if-text-gt-LONGEST_TEXT.true
 
 pub returns : goal.returns
-returns c = c.first_of_threshold.ensures ∙ text_fits _ _ _ c.if-text-gt-LONGEST_TEXT.false
+returns c = c.first_of_threshold.ensures ∙ text_fits _ _ c.if-text-gt-LONGEST_TEXT.false

@@ -1,13 +1,11 @@
 -- By the threshold. Assumes nothing.
 use mathlib.Core.Bool.{not}
 use mathlib.Core.Path.{sym, ap, ◌∙◌}
-use Rattle.base.specs.Causes.{refused_at}
 use Rattle.md_compact.proofs.Laws.Either.{threshold_bad, threshold_fine}
 use Rattle.md_compact.proofs.first.first_of_threshold.Goals as goal
 
 pub returns-then-not-is_finite : goal.returns-then-not-is_finite
-unfolding refused_at
-returns-then-not-is_finite c = threshold_bad _ _ (ap not (sym c.is_finite.ensures ∙ c.if-not-is_finite.true))
+returns-then-not-is_finite c = c.refuse.ensures ∙ threshold_bad _ (ap not (sym c.is_finite.ensures ∙ c.if-not-is_finite.true))
 
 pub returns : goal.returns
-returns c = threshold_fine _ _ (ap not (sym c.is_finite.ensures ∙ c.if-not-is_finite.false))
+returns c = threshold_fine _ (ap not (sym c.is_finite.ensures ∙ c.if-not-is_finite.false))

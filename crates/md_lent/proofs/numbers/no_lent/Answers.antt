@@ -1,8 +1,8 @@
 -- Zeros. Assumes nothing.
-use mathlib.Core.Path.{refl}
+use borrow.Author.Rules.{rules}
 use Rattle.md_lent_meaning.specs.Inner.Lent.{no_lent}
 use Rattle.md_lent.proofs.numbers.no_lent.Goals as goal
 
 pub returns : goal.returns
 unfolding no_lent
-returns c = refl
+returns c = search rules

@@ -1,19 +1,11 @@
--- After k turns the first k numbers stand in the output from `at` on. Assumes nothing.
-use mathlib.Core.Path.{refl}
-use Rattle.base.proofs.Loops.Putting.{putting_start, putting_length, putting_room, putting_more, putting_end}
+-- The part of the output from `at` on that is as long as the row gets the row, so the whole gets it at `at`. Assumes nothing.
+use mathlib.Core.Path.{refl, sym, ◌∙◌}
+use native.Mathlib.Omega.{arith}
+use lib.ListN.{length}
+use Rattle.std.proofs.lemmas.Slice.{put_mid-paste}
+use Rattle.base.proofs.Laws.Put.{put_all}
 use Rattle.md_lines.proofs.row.put_row.Goals as goal
 
-pub loop-k-init : goal.loop-k-init
-loop-k-init c = putting_start _ _ _ c.requires
-
-pub bounds-out-at : goal.bounds-out-at
-bounds-out-at c = putting_room _ _ _ c.loop-k.invariant c.loop-k-test.true
-
-pub loop-k-preserved : goal.loop-k-preserved
-loop-k-preserved c = putting_more _ _ _ c.loop-k.invariant c.loop-k-test.true 0 _ refl
-
-pub shape_of-out : goal.shape_of-out
-shape_of-out c = putting_length _ _ _ c.loop-k.invariant
-
 pub returns : goal.returns
-returns c = putting_end _ _ _ c.loop-k.invariant c.loop-k-test.false
+returns c =
+    put_mid-paste _ _ _ _ _ (length c.args.row.now) c.copy_from_slice.ensures.after (omega arith) refl ∙ sym (put_all _ _ _)

@@ -4,10 +4,10 @@ use Rattle.md_lines_meaning.specs.Burst.{row_numbers}
 use Rattle.md_lines.proofs.row.row_of.Goals as goal
 
 pub row_of_score-requires : goal.row_of_score-requires
-row_of_score-requires c = c.requires _ c.in-Score.is
+row_of_score-requires c = c.requires _ c.in-Ok.is
 
-pub returns-in-Refused : goal.returns-in-Refused
-returns-in-Refused c = c.row_of_refusal.ensures ∙ ap row_numbers (sym c.in-Refused.is)
+pub returns-in-Err : goal.returns-in-Err
+returns-in-Err c = c.row_of_refusal.ensures ∙ ap row_numbers (sym c.in-Err.is)
 
-pub returns-in-Score : goal.returns-in-Score
-returns-in-Score c = c.row_of_score.ensures ∙ ap row_numbers (sym c.in-Score.is)
+pub returns-in-Ok : goal.returns-in-Ok
+returns-in-Ok c = c.row_of_score.ensures ∙ ap row_numbers (sym c.in-Ok.is)

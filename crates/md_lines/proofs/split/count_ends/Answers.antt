@@ -1,34 +1,30 @@
--- After each turn the ends before i are counted: those of a block more. What is left is shorter than a block. Assumes nothing.
-use mathlib.Core.Path.{◌∙◌}
+-- After each block the ends of what was passed are counted, and those of what is left are still to come. Assumes nothing.
+use mathlib.Core.Path.{refl, ◌∙◌}
 use native.Mathlib.Omega.{arith}
-use lib.ListN.{length-take}
-use Rattle.md_lines.proofs.Loops.Counting.{counting_start, counting_part, counting_few, counting_end}
+use borrow.Author.Rules.{rules}
+use Rattle.std.specs.Slice.Iter.{chunks_rest}
+use Rattle.md_lines_meaning.specs.Burst.{LONGEST_BURST}
+use Rattle.md_lines_meaning.specs.Inner.Lines.{ends_of}
+use Rattle.md_lines.proofs.Loops.Counting.{ends_parts, ends_below}
 use Rattle.md_lines.proofs.split.count_ends.Goals as goal
-
-pub loop-i-init : goal.loop-i-init
-loop-i-init c = (counting_start _, omega arith)
-
-pub ends_in_block-requires : goal.ends_in_block-requires
-ends_in_block-requires c = simp length-take (omega arith)
 
 pub overflow_add-n : goal.overflow_add-n
 overflow_add-n c =
-    let more = counting_part _ _ _ c.loop-i.invariant.0 _ _ (c.wide-n.ensures.is ∙ c.ends_in_block.ensures) (omega arith) in
-    omega (arith, counting_few _ _ _ more, c.requires)
+    let parts = ends_parts (chunks_rest c.loop-block.block-iterator) c.in-Some.block.now (chunks_rest c.next.new.self) c.in-Some.ensures.steps.1.0 in
+    let few = ends_below c.args.bytes.now (ends_of c.args.bytes.now) LONGEST_BURST refl c.requires in
+    omega (arith, parts, few, c.ends_in_block.ensures, c.loop-block.invariant.3)
 
-pub loop-i-preserved : goal.loop-i-preserved
-loop-i-preserved c =
-    (counting_part _ _ _ c.loop-i.invariant.0 _ _ (c.wide-n.ensures.is ∙ c.ends_in_block.ensures) (omega arith), omega arith)
-
-pub ends_in_block-requires-2 : goal.ends_in_block-requires-2
-ends_in_block-requires-2 c = simp length-take (omega arith)
-
-pub overflow_add-result : goal.overflow_add-result
-overflow_add-result c =
-    let more = counting_part _ _ _ c.loop-i.invariant.0 _ _ (c.wide.ensures.is ∙ c.ends_in_block-2.ensures) (omega (arith, c.loop-i.invariant.1)) in
-    omega (arith, counting_few _ _ _ more, c.requires)
+pub loop-block-preserved : goal.loop-block-preserved
+loop-block-preserved c =
+    let steps = c.in-Some.ensures.steps in
+    let parts = ends_parts (chunks_rest c.loop-block.block-iterator) c.in-Some.block.now (chunks_rest c.next.new.self) steps.1.0 in (
+      search rules,
+      tt,
+      steps.0 ∙ c.loop-block.invariant.2,
+      omega (arith, parts, c.ends_in_block.ensures, c.loop-block.invariant.3),
+    )
 
 pub returns : goal.returns
 returns c =
-    counting_end _ _ _
-    (counting_part _ _ _ c.loop-i.invariant.0 _ _ (c.wide.ensures.is ∙ c.ends_in_block-2.ensures) (omega (arith, c.loop-i.invariant.1))) (omega arith)
+    let none = ends_below (chunks_rest c.loop-block.block-iterator) (ends_of (chunks_rest c.loop-block.block-iterator)) 0 refl (omega (arith, c.in-None.ensures.steps.1.0)) in
+    omega (arith, none, c.loop-block.invariant.3)

@@ -1,5 +1,5 @@
 -- The walk for the first that is at least each. Assumes nothing.
-use mathlib.Core.Path.{sym, ◌∙◌}
+use mathlib.Core.Path.{◌≡◌, sym, ◌∙◌}
 use native.Mathlib.Omega.{arith}
 use Rattle.base.proofs.Laws.First.{first_start, first_hit, first_miss, first_end}
 use Rattle.ratio.specs.Eight.{DETECTORS}
@@ -11,12 +11,6 @@ pub loop-k-init : goal.loop-k-init
 unfolding first_greatest
 loop-k-init c = (omega arith, first_start (λ j. at_least_all (ratio_at c.args.r j) c.args.r) DETECTORS)
 
-pub offset_bounds-list-k : goal.offset_bounds-list-k
-offset_bounds-list-k c = omega arith
-
-pub bounds-list-k : goal.bounds-list-k
-bounds-list-k c = omega arith
-
 pub at_least_all-requires : goal.at_least_all-requires
 at_least_all-requires c = tt
 
@@ -24,12 +18,6 @@ pub returns-then-at_least_all : goal.returns-then-at_least_all
 returns-then-at_least_all c =
     sym (first_hit _ _ _ c.loop-k-test.true (rw (ratio_read _ _ c.loop-k-test.true) at (sym c.at_least_all.ensures ∙ c.if-at_least_all.true)))
     ∙ c.loop-k.invariant.1
-
-pub overflow_add-k : goal.overflow_add-k
-overflow_add-k c = omega arith
-
-pub loop-k-smaller : goal.loop-k-smaller
-loop-k-smaller c = omega arith
 
 pub loop-k-preserved : goal.loop-k-preserved
 loop-k-preserved c = (
@@ -39,4 +27,6 @@ loop-k-preserved c = (
 )
 
 pub returns : goal.returns
-returns c = sym (first_end _ _ _ (omega arith)) ∙ c.loop-k.invariant.1
+returns c =
+    let e : c.loop-k.k ≡ DETECTORS = omega (arith, c.loop-k.invariant.0, c.loop-k-test.false) in
+    sym e ∙ sym (first_end _ _ _ e) ∙ c.loop-k.invariant.1

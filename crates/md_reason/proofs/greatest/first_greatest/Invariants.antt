@@ -1,4 +1,4 @@
-use Prim.Native.Nat.{◌-◌, ◌≤◌}
+use Prim.Native.Nat.{◌≤◌}
 use mathlib.Core.Path.{◌≡◌}
 use Rattle.base.specs.Inner.First.{first_from}
 use Rattle.ratio.specs.Eight.{DETECTORS}
@@ -7,6 +7,3 @@ use Rattle.md_reason.proofs.greatest.first_greatest.Given as goal
 
 abbrev pub invariant-loop-k : goal.invariant-loop-k
 invariant-loop-k l = (l.k ≤ DETECTORS) × (first_from (λ j. at_least_all (ratio_at l.r j) l.r) DETECTORS l.k ≡ first_greatest l.r)
-
-abbrev pub decreases-loop-k : goal.decreases-loop-k
-decreases-loop-k l = DETECTORS - l.k

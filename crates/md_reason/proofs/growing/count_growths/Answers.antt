@@ -26,12 +26,6 @@ pub overflow_add-count : goal.overflow_add-count
 overflow_add-count c =
     omega (arith, c.one-count.ensures.small, counting_few _ _ _ _ _ c.loop-i.invariant, c.loop-i-test.true, c.requires.1, c.requires.0.short)
 
-pub overflow_add-i : goal.overflow_add-i
-overflow_add-i c = omega arith
-
-pub loop-i-smaller : goal.loop-i-smaller
-loop-i-smaller c = omega arith
-
 pub loop-i-preserved : goal.loop-i-preserved
 loop-i-preserved c =
     counting_more _ _ _ _ _ c.loop-i.invariant c.loop-i-test.true _ c.watched_after-w.ensures _

@@ -3,12 +3,12 @@ use mathlib.Core.Path.{sym, ◌∙◌}
 use Rattle.md_meaning.specs.Scan.{class_at}
 use Rattle.md_reason.proofs.growing.fed_class.Goals as goal
 
-pub returns-in-At : goal.returns-in-At
+pub returns-in-Some : goal.returns-in-Some
 unfolding class_at
-returns-in-At c =
-    rw (rw c.point_at-point.ensures at (sym c.look_up_in.ensures ∙ c.in-At.is))
+returns-in-Some c =
+    rw (rw c.point_at-point.ensures at (sym c.look_up_in.ensures ∙ c.in-Some.is))
 
-pub returns-in-Nothing : goal.returns-in-Nothing
+pub returns-in-None : goal.returns-in-None
 unfolding class_at
-returns-in-Nothing c =
-    rw (c.point_at-point.ensures, rw c.point_at-point.ensures at (sym c.look_up_in.ensures ∙ c.in-Nothing.is))
+returns-in-None c =
+    rw (c.point_at-point.ensures, rw c.point_at-point.ensures at (sym c.look_up_in.ensures ∙ c.in-None.is))

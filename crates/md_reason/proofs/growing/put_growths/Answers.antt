@@ -4,6 +4,7 @@ use native.Mathlib.Omega.{arith}
 use Rattle.md_reason.proofs.Laws.Steps.{grew_is}
 use Rattle.md_reason.proofs.Loops.Growing.{filling_start, filling_length, filling_few, filling_room, filling_hit, filling_miss, filling_end}
 use Rattle.md_reason.proofs.growing.put_growths.Goals as goal
+use Rattle.md_reason.proofs.growing.put_growths.Goals.{then-grew_at, else-grew_at}
 
 pub start-w-requires : goal.start-w-requires
 start-w-requires c = tt
@@ -36,27 +37,17 @@ pub overflow_add-k : goal.overflow_add-k
 overflow_add-k c =
     omega (arith, filling_few _ _ _ _ _ _ c.loop-i.invariant, c.loop-i-test.true, c.requires.1, c.requires.0.short)
 
-pub overflow_add-i : goal.overflow_add-i
-overflow_add-i c = omega arith
-
-pub loop-i-smaller-then-grew_at : goal.loop-i-smaller-then-grew_at
-loop-i-smaller-then-grew_at c = omega arith
-
-pub loop-i-preserved-then-grew_at : goal.loop-i-preserved-then-grew_at
-loop-i-preserved-then-grew_at c =
-    filling_hit _ _ _ _ _ _ c.loop-i.invariant c.loop-i-test.true _ c.watched_after-w.ensures
-    (sym (c.grew_at.ensures ∙ rw c.watched_after-w.ensures (grew_is _ _ _ _ _)) ∙ c.if-grew_at.true)
-
-pub overflow_add-i-else-grew_at : goal.overflow_add-i-else-grew_at
-overflow_add-i-else-grew_at c = omega arith
-
-pub loop-i-smaller : goal.loop-i-smaller
-loop-i-smaller c = omega arith
-
 pub loop-i-preserved : goal.loop-i-preserved
 loop-i-preserved c =
-    filling_miss _ _ _ _ _ _ c.loop-i.invariant c.loop-i-test.true _ c.watched_after-w.ensures
-    (sym (c.grew_at.ensures ∙ rw c.watched_after-w.ensures (grew_is _ _ _ _ _)) ∙ c.if-grew_at.false)
+    let grows_here = c.grew_at.ensures ∙ rw c.watched_after-w.ensures (grew_is _ _ _ _ _) in
+    elim c.if-grew_at.branch [
+      | then-grew_at w ↦
+          rw (w.out-is, w.k-is)
+          (filling_hit _ _ _ _ _ _ c.loop-i.invariant c.loop-i-test.true _ c.watched_after-w.ensures (sym grows_here ∙ w.if-grew_at.true))
+      | else-grew_at w ↦
+          rw (w.out-is, w.k-is)
+          (filling_miss _ _ _ _ _ _ c.loop-i.invariant c.loop-i-test.true _ c.watched_after-w.ensures (sym grows_here ∙ w.if-grew_at.false))
+    ]
 
 pub shape_of-out : goal.shape_of-out
 shape_of-out c = filling_length _ _ _ _ _ _ c.loop-i.invariant

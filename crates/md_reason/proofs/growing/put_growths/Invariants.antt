@@ -1,9 +1,5 @@
-use Prim.Native.Nat.{◌-◌}
 use Rattle.md_reason.proofs.Loops.Growing.{Filling}
 use Rattle.md_reason.proofs.growing.put_growths.Given as goal
 
 abbrev pub invariant-loop-i : goal.invariant-loop-i
 invariant-loop-i l = Filling l.classes l.pairs l.text l.d l.n l.initial.out l.out l.w l.k l.i
-
-abbrev pub decreases-loop-i : goal.decreases-loop-i
-decreases-loop-i l = l.n - l.i

@@ -11,9 +11,6 @@ pub add_line-requires : goal.add_line-requires
 add_line-requires c =
     ((c.requires.0, omega (arith, c.lines_in-lines.ensures, c.loop-i-test.true)), c.requires.1, c.loop-i.invariant.1)
 
-pub loop-i-smaller : goal.loop-i-smaller
-loop-i-smaller c = omega arith
-
 pub loop-i-preserved : goal.loop-i-preserved
 loop-i-preserved c = (omega arith, c.add_line.ensures, bins_long _ _ _ _ c.add_line.ensures)
 

@@ -11,9 +11,6 @@ pub add_kind-requires : goal.add_kind-requires
 add_kind-requires c =
     ((c.requires, omega (arith, c.lines_in-lines.ensures, c.loop-i-test.true)), c.loop-i.invariant.1)
 
-pub loop-i-smaller : goal.loop-i-smaller
-loop-i-smaller c = omega arith
-
 pub loop-i-preserved : goal.loop-i-preserved
 loop-i-preserved c = (omega arith, c.add_kind.ensures, kinds_long _ _ _ c.add_kind.ensures)
 

@@ -14,9 +14,6 @@ put_bin-next-requires c =
     let long = writing_length _ _ _ _ _ _ _ c.loop-k.invariant in
     omega (arith, near, long, c.requires)
 
-pub loop-k-smaller : goal.loop-k-smaller
-loop-k-smaller c = omega arith
-
 pub loop-k-preserved : goal.loop-k-preserved
 loop-k-preserved c =
     writing_more _ _ _ _ _ _ _ c.loop-k.invariant _ _ c.loop-k-test.true c.put_bin-next.ensures

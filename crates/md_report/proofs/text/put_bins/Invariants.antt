@@ -1,4 +1,3 @@
-use Prim.Native.Nat.{◌-◌}
 use lib.ListN.{get_or}
 use Rattle.md_report_meaning.specs.Bins.{BINS}
 use Rattle.md_report_meaning.specs.Text.{bin_line}
@@ -7,6 +6,3 @@ use Rattle.md_report.proofs.text.put_bins.Given as goal
 
 abbrev pub invariant-loop-k : goal.invariant-loop-k
 invariant-loop-k l = Writing (λ bin. bin_line l.detector bin (get_or l.counts bin 0)) BINS l.initial.out l.out l.at l.next l.k
-
-abbrev pub decreases-loop-k : goal.decreases-loop-k
-decreases-loop-k l = BINS - l.k

@@ -21,9 +21,6 @@ put_bins-at-requires c =
     let same = ap length (counts_text _ _ _ c.bins_of-counts.ensures) in
     omega (arith, room, long, same, c.requires.1)
 
-pub loop-d-smaller : goal.loop-d-smaller
-loop-d-smaller c = omega arith
-
 pub loop-d-preserved : goal.loop-d-preserved
 loop-d-preserved c =
     writing_more _ _ _ _ _ _ _ c.loop-d.invariant _ _ c.loop-d-test.true (goes_as (counts_text _ _ _ c.bins_of-counts.ensures) c.put_bins-at.ensures)

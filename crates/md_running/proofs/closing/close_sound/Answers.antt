@@ -5,7 +5,7 @@ use Rattle.md_running_meaning.proofs.Laws.Closing.{close_short, close_stopped, c
 use Rattle.md_running.proofs.closing.close_sound.Goals as goal
 
 pub returns-then-s : goal.returns-then-s
-returns-then-s c = c.unscored.ensures ∙ close_short _ c.if-s.true
+returns-then-s c = c.refuse.ensures ∙ close_short _ c.if-s.true
 
 pub scored-requires : goal.scored-requires
 scored-requires c = sound_countable _ c.requires

@@ -7,6 +7,3 @@ pub returns-then-line_checkpoint : goal.returns-then-line_checkpoint
 unfolding reaches sum_of
 returns-then-line_checkpoint c =
     simp (sym c.line_checkpoint.ensures ∙ c.if-line_checkpoint.true, c.sum.ensures, c.ratios.ensures)
-
-pub returns : goal.returns
-returns c = simp (sym c.line_checkpoint.ensures ∙ c.if-line_checkpoint.false)

@@ -11,13 +11,13 @@ take-requires c =
       sound = pre.0;
       room = pre.1;
       fits = pre.2.fits;
-      range = (class_lawful _ pre.2.good _ _ (sym c.look_up_in.ensures ∙ c.in-At.is)).range;
+      range = (class_lawful _ pre.2.good _ _ (sym c.look_up_in.ensures ∙ c.in-Some.is)).range;
     }
 
-pub returns-in-Nothing : goal.returns-in-Nothing
-returns-in-Nothing c =
-    c.unfed.ensures ∙ fed_refused _ _ _ _ _ (none_here _ _ _ (sym c.look_up_in.ensures ∙ c.in-Nothing.is))
+pub returns-in-None : goal.returns-in-None
+returns-in-None c =
+    c.unfed.ensures ∙ fed_refused _ _ _ _ _ (none_here _ _ _ (sym c.look_up_in.ensures ∙ c.in-None.is))
 
-pub returns-in-At : goal.returns-in-At
-returns-in-At c =
-    rw c.take.ensures (found_here _ _ _ _ _ (sym c.look_up_in.ensures ∙ c.in-At.is))
+pub returns-in-Some : goal.returns-in-Some
+returns-in-Some c =
+    rw c.take.ensures (found_here _ _ _ _ _ (sym c.look_up_in.ensures ∙ c.in-Some.is))

@@ -1,4 +1,4 @@
-use Prim.Native.Nat.{◌≤◌, ◌-◌}
+use Prim.Native.Nat.{◌≤◌}
 use mathlib.Core.Path.{◌≡◌}
 use Rattle.base.specs.First.{first}
 use Rattle.base.specs.Inner.First.{first_from}
@@ -7,6 +7,3 @@ use Rattle.md_second.proofs.classed.first_classless.Given as goal
 
 abbrev pub invariant-loop-i : goal.invariant-loop-i
 invariant-loop-i l = (l.i ≤ l.n) × (first_from (unclassed l.classes l.text) l.n l.i ≡ first (unclassed l.classes l.text) l.n)
-
-abbrev pub decreases-loop-i : goal.decreases-loop-i
-decreases-loop-i l = l.n - l.i

@@ -11,7 +11,7 @@ loop-i-init c = doubled_start _ _ _
 pub loop-i-preserved : goal.loop-i-preserved
 loop-i-preserved c =
     doubled_more _ _ c.loop-i.invariant c.loop-i-test.true c.is_set.ensures c.is_set-in-loop-i.ensures c.is_shared.ensures
-    c.is_shared-in-loop-i.ensures refl c.one.ensures.is c.one-in-loop-i.ensures.is c.one-letters.ensures.is
+    c.is_shared-in-loop-i.ensures refl c.one-doubled.ensures.is c.one-doubled-in-loop-i.ensures.is c.one-letters.ensures.is
     c.pick-last.ensures.is c.pick-last_base.ensures.is
 
 pub returns : goal.returns

@@ -8,10 +8,6 @@ use Rattle.md_second.proofs.counting.count_ranges.Goals as goal
 pub loop-i-init : goal.loop-i-init
 loop-i-init c = ranges_start _ _ _ _ c.requires.3
 
-pub is_suspicious-requires : goal.is_suspicious-requires
-is_suspicious-requires c =
-    (c.requires.2, c.loop-i.invariant.within.last, c.requires.3 _ c.loop-i-test.true)
-
 pub loop-i-preserved : goal.loop-i-preserved
 loop-i-preserved c =
     ranges_more _ _ _ c.requires.3 c.loop-i.invariant c.loop-i-test.true c.is_set-printable.ensures c.is_forgetful.ensures

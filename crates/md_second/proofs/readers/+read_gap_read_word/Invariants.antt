@@ -12,11 +12,5 @@ decreases-read_word l = l.n - l.at
 abbrev pub invariant-read_gap-loop-i : goal.invariant-read_gap-loop-i
 invariant-read_gap-loop-i l = Gapping l.flags l.n l.at l.words l.case l.i
 
-abbrev pub decreases-read_gap-loop-i : goal.decreases-read_gap-loop-i
-decreases-read_gap-loop-i l = l.n - l.i
-
 abbrev pub invariant-read_word-loop-i : goal.invariant-read_word-loop-i
 invariant-read_word-loop-i l = Wording l.flags l.n l.at l.words l.word l.case l.i
-
-abbrev pub decreases-read_word-loop-i : goal.decreases-read_word-loop-i
-decreases-read_word-loop-i l = l.n - l.i

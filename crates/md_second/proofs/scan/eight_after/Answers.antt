@@ -5,38 +5,6 @@ use Rattle.md_second.specs.Inner.After.{eight_after}
 use Rattle.md_second.proofs.Laws.After.{read_words_counts, read_case_counts}
 use Rattle.md_second.proofs.scan.eight_after.Goals as goal
 
-pub read_words-read-requires : goal.read_words-read-requires
-read_words-read-requires c =
-    (c.requires.flags, c.requires.some)
-
-pub count_symbols-requires : goal.count_symbols-requires
-count_symbols-requires c =
-    (c.requires.points, c.requires.flags)
-
-pub count_accents-requires : goal.count_accents-requires
-count_accents-requires c =
-    c.requires.flags
-
-pub count_unprintable-requires : goal.count_unprintable-requires
-count_unprintable-requires c =
-    c.requires.flags
-
-pub count_ranges-requires : goal.count_ranges-requires
-count_ranges-requires c =
-    (c.requires.flags, c.requires.ranges, c.requires.pairs, c.requires.known)
-
-pub count_doubled-requires : goal.count_doubled-requires
-count_doubled-requires c =
-    (c.requires.flags, c.requires.bases)
-
-pub count_stops-requires : goal.count_stops-requires
-count_stops-requires c =
-    (c.requires.points, c.requires.flags)
-
-pub count_case-requires : goal.count_case-requires
-count_case-requires c =
-    c.requires.flags.room
-
 pub returns : goal.returns
 unfolding counts eight_after
 returns c =

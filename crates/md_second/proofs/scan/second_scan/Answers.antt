@@ -4,7 +4,7 @@ use Rattle.md_second.proofs.Laws.Same.{list_same, listed_all, scan_classless, sc
 use Rattle.md_second.proofs.scan.second_scan.Goals as goal
 
 pub returns-then-bad-text : goal.returns-then-bad-text
-returns-then-bad-text c = c.second_refused.ensures ∙ scan_classless _ _ _ _ _ c.first_classless-bad.ensures c.if-bad-text.true
+returns-then-bad-text c = c.refuse.ensures ∙ scan_classless _ _ _ _ _ c.first_classless-bad.ensures c.if-bad-text.true
 
 pub compare_all-requires : goal.compare_all-requires
 compare_all-requires c =

@@ -1,12 +1,9 @@
 -- What was found before k, or what is in the list from k on, is what is among them all (`Looking`). Assumes nothing.
-use Rattle.base.proofs.Loops.Looking.{looking_start, looking_more, looking_end}
+use Rattle.base.proofs.Loops.Looking.{looking_more, looking_end}
 use Rattle.page.proofs.check.holds.Goals as goal
 
-pub loop-k-init : goal.loop-k-init
-loop-k-init c = looking_start _ _
-
-pub loop-k-preserved : goal.loop-k-preserved
-loop-k-preserved c = looking_more _ _ c.loop-k.invariant c.loop-k-test.true
+pub loop-y-preserved : goal.loop-y-preserved
+loop-y-preserved c = looking_more _ _ c.loop-y.invariant c.loop-y-test.true
 
 pub returns : goal.returns
-returns c = looking_end _ _ c.loop-k.invariant c.loop-k-test.false
+returns c = looking_end _ _ c.loop-y.invariant c.loop-y-test.false

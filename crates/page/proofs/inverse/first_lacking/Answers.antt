@@ -1,21 +1,16 @@
--- The walk has passed only code points that the page has. Assumes nothing.
-use mathlib.Core.Path.{sym, ◌∙◌}
-use native.Mathlib.Omega.{arith}
-use Rattle.base.proofs.Laws.First.{first_start, first_hit, first_miss, first_end}
-use Rattle.page_meaning.specs.Inner.Tables.{first_lacking}
+-- The first code point that the page lacks, or past all. Assumes nothing.
+use Rattle.std.proofs.Common.{rules, ◌≡◌}
+use Rattle.std.specs.List.{position}
+use Rattle.std.proofs.lemmas.Iterator.{YieldsList-from_slice}
+use Rattle.std.proofs.lemmas.Iterator.Search.{position_from_yields_List}
+use borrow.Author.Tests.{tests}
+use Rattle.page_meaning.specs.Inner.Tables.{lacking, first_lacking}
+use Rattle.page.proofs.Loops.Finding.{first_position}
 use Rattle.page.proofs.inverse.first_lacking.Goals as goal
 
-pub loop-i-init : goal.loop-i-init
-unfolding first_lacking
-loop-i-init c = (omega arith, first_start _ _)
-
-pub returns-then-is_lacking : goal.returns-then-is_lacking
-returns-then-is_lacking c =
-    sym (first_hit _ _ _ c.loop-i-test.true (sym c.is_lacking.ensures ∙ c.if-is_lacking.true)) ∙ c.loop-i.invariant.1
-
-pub loop-i-preserved : goal.loop-i-preserved
-loop-i-preserved c =
-    (omega arith, sym (first_miss _ _ _ c.loop-i-test.true (sym c.is_lacking.ensures ∙ c.if-is_lacking.false)) ∙ c.loop-i.invariant.1)
-
 pub returns : goal.returns
-returns c = sym (first_end _ _ _ (omega arith)) ∙ c.loop-i.invariant.1
+unfolding first_lacking
+returns c =
+    let found : c.position.result ≡ position (lacking c.args.inverse.now) c.args.text.now =
+    position_from_yields_List _ _ _ _ c.position.ensures.ran (YieldsList-from_slice c.args.text.now cc) (λ x b q k. search (rules, tests)) in
+    rw (c.unwrap_or.ensures, found) (first_position (lacking c.args.inverse.now) c.args.text.now)

@@ -7,9 +7,6 @@ use Rattle.page.proofs.inverse.invert.Goals as goal
 pub loop-b-init : goal.loop-b-init
 loop-b-init c = inverting_start _ _ c.requires.1
 
-pub point_of-requires : goal.point_of-requires
-point_of-requires c = (c.requires.0.size, c.loop-b-test.true)
-
 pub bounds-inverse-point_of : goal.bounds-inverse-point_of
 bounds-inverse-point_of c =
     let w = point_word c.args.page.now (λ i h. omega (arith, c.shared_slice_known-1.given i)) c.loop-b.b in

@@ -1,10 +1,5 @@
-use Prim.Native.Nat.{◌-◌}
-use Rattle.page_meaning.specs.Page.{BYTES}
 use Rattle.page.proofs.Loops.Inverting.{Inverting}
 use Rattle.page.proofs.inverse.invert.Given as goal
 
 abbrev pub invariant-loop-b : goal.invariant-loop-b
 invariant-loop-b l = Inverting l.page l.inverse l.b
-
-abbrev pub decreases-loop-b : goal.decreases-loop-b
-decreases-loop-b l = BYTES - l.b

@@ -1,31 +1,19 @@
--- The walk has passed only bytes that are used. Assumes nothing.
-use mathlib.Core.Path.{sym, ◌∙◌}
-use native.Mathlib.Omega.{arith}
-use borrow.Author.Tests.{eq-eqb, ne_eqb}
-use Rattle.base.proofs.Laws.First.{first_start, first_hit, first_miss, first_end}
+-- The first byte that is unused, or past all. Assumes nothing.
+use Rattle.std.proofs.Common.{rules, ℕ, Bool, ◌≡◌, get_or}
+use Rattle.std.specs.List.{position}
+use Rattle.std.proofs.lemmas.Iterator.{YieldsList-from_slice}
+use Rattle.std.proofs.lemmas.Iterator.Search.{position_from_yields_List}
+use borrow.Author.Tests.{tests}
+use lib.Dec.{eqb}
+use Rattle.page_meaning.specs.Page.{UNUSED}
 use Rattle.page_meaning.specs.Inner.Tables.{first_unused}
+use Rattle.page.proofs.Loops.Finding.{first_position}
 use Rattle.page.proofs.points.first_unused.Goals as goal
 
-pub loop-i-init : goal.loop-i-init
-unfolding first_unused
-loop-i-init c = (omega arith, first_start _ _)
-
-pub overflow_cast-bytes : goal.overflow_cast-bytes
-overflow_cast-bytes c = omega (arith, c.shared_slice_known-1.given c.loop-i.i)
-
-pub offset_bounds-points-bytes : goal.offset_bounds-points-bytes
-offset_bounds-points-bytes c = omega (arith, c.shared_slice_known-1.given c.loop-i.i)
-
-pub bounds-points-bytes : goal.bounds-points-bytes
-bounds-points-bytes c = omega (arith, c.shared_slice_known-1.given c.loop-i.i)
-
-pub returns-then-points-bytes-eq-UNUSED : goal.returns-then-points-bytes-eq-UNUSED
-returns-then-points-bytes-eq-UNUSED c =
-    sym (first_hit _ _ _ c.loop-i-test.true (eq-eqb _ _ c.if-points-bytes-eq-UNUSED.true)) ∙ c.loop-i.invariant.1
-
-pub loop-i-preserved : goal.loop-i-preserved
-loop-i-preserved c =
-    (omega arith, sym (first_miss _ _ _ c.loop-i-test.true (ne_eqb _ _ c.if-points-bytes-eq-UNUSED.false)) ∙ c.loop-i.invariant.1)
-
 pub returns : goal.returns
-returns c = sym (first_end _ _ _ (omega arith)) ∙ c.loop-i.invariant.1
+unfolding first_unused
+returns c =
+    let unused : ℕ → Bool = λ b. eqb (get_or c.args.points.now b 0) UNUSED in
+    let found : c.position.result ≡ position unused c.args.bytes.now =
+    position_from_yields_List _ _ _ _ c.position.ensures.ran (YieldsList-from_slice c.args.bytes.now cc) (λ x b q k. search (rules, tests)) in
+    rw (c.unwrap_or.ensures, found) (first_position unused c.args.bytes.now)

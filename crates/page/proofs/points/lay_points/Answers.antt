@@ -1,12 +1,6 @@
 -- The code points of the first b bytes are laid out (`Laying`). Assumes nothing.
-use Rattle.page.proofs.Loops.Laying.{laying_start, laying_more, laying_end}
+use Rattle.page.proofs.Loops.Laying.{laying_more, laying_end}
 use Rattle.page.proofs.points.lay_points.Goals as goal
-
-pub loop-b-init : goal.loop-b-init
-loop-b-init c = laying_start _ _ c.requires.1
-
-pub point_of-requires : goal.point_of-requires
-point_of-requires c = (c.requires.0, c.loop-b-test.true)
 
 pub loop-b-preserved : goal.loop-b-preserved
 loop-b-preserved c = laying_more _ _ _ c.loop-b.invariant c.loop-b-test.true _ c.point_of.ensures

@@ -1,10 +1,6 @@
-use Prim.Native.Nat.{◌-◌}
-use lib.ListN.{length}
+use Prim.Native.Nat.{◌+◌, ◌*◌}
 use Rattle.utf8_meaning.specs.Inner.Ascii.{AsciiRun}
 use Rattle.utf8.proofs.ascii.past_eights.Given as goal
 
-abbrev pub invariant-loop-j : goal.invariant-loop-j
-invariant-loop-j l = AsciiRun l.b l.i l.j
-
-abbrev pub decreases-loop-j : goal.decreases-loop-j
-decreases-loop-j l = length l.b - l.j
+abbrev pub invariant-loop-k : goal.invariant-loop-k
+invariant-loop-k l = AsciiRun l.b l.i (l.i + 8 * l.k)

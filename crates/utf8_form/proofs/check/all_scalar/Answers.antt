@@ -2,11 +2,11 @@
 use Rattle.utf8_form.proofs.Loops.Checking.{checking_start, checking_more, checking_end}
 use Rattle.utf8_form.proofs.check.all_scalar.Goals as goal
 
-pub loop-i-init : goal.loop-i-init
-loop-i-init c = checking_start _
+pub loop-c-init : goal.loop-c-init
+loop-c-init c = checking_start _
 
-pub loop-i-preserved : goal.loop-i-preserved
-loop-i-preserved c = checking_more _ c.loop-i.invariant c.loop-i-test.true _ c.has_form-good.ensures
+pub loop-c-preserved : goal.loop-c-preserved
+loop-c-preserved c = checking_more _ c.loop-c.invariant c.loop-c-test.true _ c.has_form-good.ensures
 
 pub returns : goal.returns
-returns c = checking_end _ c.loop-i.invariant c.loop-i-test.false
+returns c = checking_end _ c.loop-c.invariant c.loop-c-test.false

@@ -1,4 +1,3 @@
-use Prim.Native.Nat.{◌-◌, ◌≤◌}
 use mathlib.Core.Path.{◌≡◌}
 use mathlib.Core.Bool.{not}
 use lib.ListN.{length, get_or}
@@ -8,7 +7,4 @@ use Rattle.utf8_write_meaning.specs.Answer.{ill_at}
 use Rattle.utf8_form.proofs.check.first_ill.Given as goal
 
 abbrev pub invariant-loop-i : goal.invariant-loop-i
-invariant-loop-i l = (l.i ≤ length l.text) × (first_from (λ j. not (scalar (get_or l.text j 0))) (length l.text) l.i ≡ ill_at l.text)
-
-abbrev pub decreases-loop-i : goal.decreases-loop-i
-decreases-loop-i l = length l.text - l.i
+invariant-loop-i l = first_from (λ j. not (scalar (get_or l.text j 0))) (length l.text) l.i ≡ ill_at l.text

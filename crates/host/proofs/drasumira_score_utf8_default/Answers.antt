@@ -1,7 +1,0 @@
--- The flat form of the one call's answer. Assumes nothing.
-use mathlib.Core.Path.{ap, ◌∙◌}
-use Rattle.host.specs.Host.{host_score}
-use Rattle.host.proofs.drasumira_score_utf8_default.Goals as goal
-
-pub returns : goal.returns
-returns c = c.flat_scored.ensures ∙ ap host_score c.mess_ratio_utf8_default.ensures

@@ -1,7 +1,0 @@
--- The state as it is, and the flat form of the answer. Assumes nothing.
-use Rattle.host.specs.Running.{host_fed}
-use Rattle.host.proofs.running.flat_fed.Goals as goal
-
-pub returns : goal.returns
-unfolding host_fed
-returns c = rw c.flat_counted.ensures

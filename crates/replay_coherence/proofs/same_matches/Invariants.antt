@@ -1,9 +1,0 @@
--- The index stays within the arrays. Assumes nothing.
-use Prim.Native.Nat.{◌≤◌, ◌-◌}
-use Rattle.replay_coherence.proofs.same_matches.Given as goal
-
-abbrev pub invariant-loop-i : goal.invariant-loop-i
-invariant-loop-i l = l.i ≤ 63
-
-abbrev pub decreases-loop-i : goal.decreases-loop-i
-decreases-loop-i l = 63 - l.i

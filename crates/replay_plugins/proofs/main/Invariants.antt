@@ -1,9 +1,0 @@
-use Rattle.replay.specs.Inner.Tally.{turns}
-use Rattle.replay.proofs.Loops.Replaying.{Replaying}
-use Rattle.replay_plugins.proofs.main.Given as goal
-
-abbrev pub invariant-loop-t : goal.invariant-loop-t
-invariant-loop-t l = Replaying 2048 l.buf l.t
-
-abbrev pub decreases-loop-t : goal.decreases-loop-t
-decreases-loop-t l = turns l.t
