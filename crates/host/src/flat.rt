@@ -129,11 +129,25 @@ impl From<Result<Side, Unjudged>> for HostVerdict {
 
     fn from(judged: Result<Side, Unjudged>) -> HostVerdict {
         match judged {
-            Err(unjudged) => HostVerdict {
-                taken: 0,
-                refused: unjudged.side as u32,
-                number: unjudged.why.cause.number(),
-                place: unjudged.why.place,
+            Err(unjudged) => match unjudged.side {
+                Side::First => {
+                    let first = unjudged.why;
+                    HostVerdict {
+                        taken: 0,
+                        refused: Side::First as u32,
+                        number: first.cause.number(),
+                        place: first.place,
+                    }
+                }
+                Side::Second => {
+                    let second = unjudged.why;
+                    HostVerdict {
+                        taken: 0,
+                        refused: Side::Second as u32,
+                        number: second.cause.number(),
+                        place: second.place,
+                    }
+                }
             },
             Ok(side) => HostVerdict {
                 taken: side as u32,

@@ -23,7 +23,10 @@ pub fn choose<'a>(first: &'a [u32], second: &'a [u32], classes: &[u8], pairs: &[
     match judged {
         Ok(Side::First) => &first[..n],
         Ok(Side::Second) => &second[..n],
-        Err(_) => &first[..0],
+        Err(unjudged) => match unjudged.side {
+            Side::First => &first[..0],
+            Side::Second => &first[..0],
+        },
     }
 }
 

@@ -36,12 +36,18 @@ fn score_line(
     if line.len() <= room.len() {
         return score_taken(line, room, threshold, hints, table, classes, pairs);
     }
-    let count = utf8::count_utf8(line)?;
-    let n = count as usize;
-    if n <= room.len() {
-        return through(line, n, room, threshold, hints, table, classes, pairs);
+    // No `?` here either: see score_taken.
+    match utf8::count_utf8(line) {
+        Err(why) => Err(why),
+        Ok(count) => {
+            let n = count as usize;
+            if n <= room.len() {
+                through(line, n, room, threshold, hints, table, classes, pairs)
+            } else {
+                score_larger(line, n, threshold, hints, table, classes, pairs)
+            }
+        }
     }
-    score_larger(line, n, threshold, hints, table, classes, pairs)
 }
 
 // Puts the row of one line into out from a place on.

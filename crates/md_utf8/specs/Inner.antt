@@ -1,1 +1,2 @@
 pub mod Lendable
+pub mod Rooms

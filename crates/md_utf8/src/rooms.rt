@@ -5,6 +5,7 @@ ghost use Rattle.utf8_meaning.specs.Text.{text_of};
 ghost use Rattle.utf8_meaning.specs.Inner.Readable.{Readable};
 ghost use Rattle.md_meaning.specs.MessRatio.{mess_ratio};
 ghost use Rattle.md_utf8.specs.Inner.Lendable.{Lendable};
+ghost use Rattle.md_utf8.specs.Inner.Rooms as rooms;
 ghost use Rattle.md_utf8_meaning.specs.ScoreUtf8.{mess_ratio_utf8};
 
 use base::Refusal;
@@ -35,7 +36,7 @@ pub fn score_read(
     ensures { result ≡ mess_ratio (text_of bytes.now) threshold classes.now pairs.now }
 {
     if n <= SHORT {
-        return through_room::<SHORT>(bytes, n, threshold, hints, table, classes, pairs);
+        return through_short(bytes, n, threshold, hints, table, classes, pairs);
     }
     score_larger(bytes, n, threshold, hints, table, classes, pairs)
 }
@@ -54,9 +55,41 @@ pub fn score_larger(
     ensures { result ≡ mess_ratio (text_of bytes.now) threshold classes.now pairs.now }
 {
     if n <= MIDDLE {
-        return through_room::<MIDDLE>(bytes, n, threshold, hints, table, classes, pairs);
+        return through_middle(bytes, n, threshold, hints, table, classes, pairs);
     }
     through_room::<LONGEST_TEXT>(bytes, n, threshold, hints, table, classes, pairs)
+}
+
+// The same through the small room. What it asks of n holds SHORT to its definition.
+fn through_short(
+    bytes: &[u8],
+    n: usize,
+    threshold: f32,
+    hints: &mut [usize; HINTS],
+    table: &Table,
+    classes: &[u8],
+    pairs: &[u8],
+) -> Result<Score, Refusal>
+    requires { Readable bytes.now n × (n ≤ rooms.SHORT) × Lendable threshold table.now classes.now pairs.now }
+    ensures { result ≡ mess_ratio (text_of bytes.now) threshold classes.now pairs.now }
+{
+    through_room::<SHORT>(bytes, n, threshold, hints, table, classes, pairs)
+}
+
+// The same through the middle room. What it asks of n holds MIDDLE to its definition.
+fn through_middle(
+    bytes: &[u8],
+    n: usize,
+    threshold: f32,
+    hints: &mut [usize; HINTS],
+    table: &Table,
+    classes: &[u8],
+    pairs: &[u8],
+) -> Result<Score, Refusal>
+    requires { Readable bytes.now n × (n ≤ rooms.MIDDLE) × Lendable threshold table.now classes.now pairs.now }
+    ensures { result ≡ mess_ratio (text_of bytes.now) threshold classes.now pairs.now }
+{
+    through_room::<MIDDLE>(bytes, n, threshold, hints, table, classes, pairs)
 }
 
 // The same through a room of N code points.
@@ -107,13 +140,16 @@ pub fn score_taken(
     requires { (length bytes.now ≤ length room.old) × (length bytes.now ≤ LONGEST_TEXT) × Lendable threshold table.now classes.now pairs.now }
     ensures { result ≡ mess_ratio_utf8 bytes.now threshold classes.now pairs.now }
 {
-    let count = take_utf8(bytes, room)?;
-    scan_text_in(
-        &room[..count as usize],
-        Some(threshold),
-        hints,
-        table,
-        classes,
-        pairs,
-    )
+    // No `?` here: the compiler would make the refusal in a place of its own and copy all of an answer for it, and the score's too.
+    match take_utf8(bytes, room) {
+        Err(why) => Err(why),
+        Ok(count) => scan_text_in(
+            &room[..count as usize],
+            Some(threshold),
+            hints,
+            table,
+            classes,
+            pairs,
+        ),
+    }
 }

@@ -25,16 +25,18 @@ const SIGN_BIT: u32 = 0x8000_0000;
 // What a replay has come to: how many cases it has compared, how many of them differ and the first that does, counted from 1.
 #[derive(Clone, Copy)]
 pub struct Tally {
-    cases: u32,
-    differ: u32,
-    first: Option<u32>,
+    pub cases: u32,
+    pub differ: u32,
+    pub first: Option<u32>,
     ghost few: { cases ≤ MOST_CASES },
     ghost some: { differ ≤ cases },
 }
 
 impl Tally {
     // Nothing is compared yet.
-    pub fn none() -> Self {
+    pub fn none() -> Self
+        ensures { result.cases ≡ 0 }
+    {
         Tally {
             cases: 0,
             differ: 0,
@@ -91,7 +93,7 @@ pub fn read_case<'a>(rt: &impl Input, buf: &'a mut [u8]) -> Option<&'a [u8]>
     Some(case)
 }
 
-// Compares the cases one after the other, each with `same`, and says the verdict.
+// Compares the cases one after the other, each with `same`, and says the verdict. It is proved that every case that is read is counted.
 pub fn replay_cases<F: FnMut(&[u8]) -> bool>(
     rt: &(impl Input + Print),
     buf: &mut [u8],
@@ -100,11 +102,13 @@ pub fn replay_cases<F: FnMut(&[u8]) -> bool>(
     requires { F.IsAlwaysCallable same }
 {
     let mut t = Tally::none();
-    for _ in 0..MOST_CASES {
+    for k in 0..MOST_CASES {
         let Some(case) = read_case(rt, buf) else {
             break;
         };
         t = t.tallied(same(case));
+        let counted = t.cases == k + 1;
+        prove!(counted);
     }
     t.say(rt)
 }

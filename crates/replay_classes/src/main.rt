@@ -81,11 +81,11 @@ fn same_made_table(buf: &[u8], table: &mut [u8]) -> bool {
 }
 
 fn same_made(buf: &[u8]) -> bool {
-    let mut made = made_room();
     let size = word(buf, 4) as usize * CLASS_RECORD;
     if size > MADE_BYTES {
         return false;
     }
+    let mut made = made_room();
     same_made_table(buf, &mut made[..size])
 }
 

@@ -66,13 +66,23 @@ const SIGN_BIT: u32 = 0x8000_0000;
 // What the work area holds before a call.
 const MARK: u32 = 0xA5C3_0F5A;
 
+// The place behind `from` among p, or the first.
+fn behind(from: usize, p: usize) -> usize
+    requires { (from ≤ p) × (p ≤ TEXT_ROOM) }
+    ensures { result ≤ p }
+{
+    if from + 1 < p { from + 1 } else { 0 }
+}
+
 // Fills out with the p words of buf from the word `at` on, over and over.
 fn repeat_words(buf: &[u8], at: usize, p: usize, out: &mut [u32])
     requires { (at ≤ BLOCK_BYTES + BLOCK_BYTES) × (p ≤ TEXT_ROOM) }
     ensures { length out.new ≡ length out.old }
 {
-    for (i, x) in out.iter_mut().enumerate() {
-        *x = word(buf, at + i.checked_rem(p).unwrap_or(0));
+    let mut from = 0;
+    for x in out.iter_mut() {
+        *x = word(buf, at + from);
+        from = behind(from, p);
     }
 }
 
@@ -101,7 +111,11 @@ fn same_matches(r: Ranking, buf: &[u8], at: usize, count: usize) -> bool
 
 // Whether the first words of the work area are 0, so many as the text needs, and the others marked.
 fn same_work(work: &[u32], zeros: usize) -> bool {
-    work.iter().take(zeros).all(|x| *x == 0) & work.iter().skip(zeros).all(|x| *x == MARK)
+    let mut same = true;
+    for (i, x) in work.iter().enumerate() {
+        same &= *x == pick(i < zeros, 0, MARK);
+    }
+    same
 }
 
 // Whether the text is ranked as the question at the word `at` says, over a work area that is marked; the matches stand from the word

@@ -11,7 +11,7 @@ ghost use Rattle.replay.specs.Inner.Sizes.{MOST_WORDS};
 use base::limits::{LANGUAGE_LETTERS, MOST_LETTERS};
 use cd_jaro::{jaro, matched, similarity};
 use f32_nearest::nearest_f32;
-use replay::{MOST_CASES, Tally, WORD, read_case, word, words};
+use replay::{WORD, replay_cases, word, words};
 use std::io;
 
 // The first word of a case: two lists of letters, or a number.
@@ -125,12 +125,9 @@ fn main(rt: HostRuntime) -> io::Result<()> {
     let mut buf = [0u8; CASE_BYTES];
     let mut layer = [0u32; MOST_LETTERS];
     let mut language = [0u32; LANGUAGE_LETTERS];
-    let mut t = Tally::none();
-    for _ in 0..MOST_CASES {
-        let Some(case) = read_case(&rt, &mut buf) else {
-            break;
-        };
-        t = t.tallied(same_case(case, &mut layer, &mut language));
-    }
-    t.say(&rt)
+    replay_cases(
+        &rt,
+        &mut buf,
+        |case| same_case(case, &mut layer, &mut language),
+    )
 }

@@ -170,15 +170,17 @@ fn same_call(case: &[u8], ring: &mut [u8], out: &mut [u8]) -> bool {
     same_answer(case, answer) & same_ring(case, &ring[..]) & same_output(case, &out[..])
 }
 
-fn same_case(case: &[u8]) -> bool {
-    let mut ring = [0u8; RING];
-    let mut out = [UNTOUCHED; OUTPUT];
+// The rooms are lent, so that a case costs what it has and not what they hold.
+fn same_case(case: &[u8], ring: &mut [u8; RING], out: &mut [u8; OUTPUT]) -> bool {
     let size = ring_size(case);
     let room = output_room(case);
+    out[..room].fill(UNTOUCHED);
     same_call(case, &mut ring[..size], &mut out[..room])
 }
 
 fn main(rt: HostRuntime) -> io::Result<()> {
     let mut buf = [0u8; CASE_BYTES];
-    replay_cases(&rt, &mut buf, same_case)
+    let mut ring = [0u8; RING];
+    let mut out = [0u8; OUTPUT];
+    replay_cases(&rt, &mut buf, |case| same_case(case, &mut ring, &mut out))
 }

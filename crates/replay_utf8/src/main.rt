@@ -117,15 +117,17 @@ fn same_reading(case: &[u8], input: &mut [u8], out: &mut [u32]) -> bool {
     same_counted(answer, case, NUMBER) & same_output(case, &out[..])
 }
 
-fn same_case(case: &[u8]) -> bool {
-    let mut input = [0u8; INPUT];
-    let mut out = [UNTOUCHED; OUTPUT];
+// The rooms are lent, so that a case costs what it has and not what they hold.
+fn same_case(case: &[u8], input: &mut [u8; INPUT], out: &mut [u32; OUTPUT]) -> bool {
     let size = input_size(case);
     let room = room_of(case);
+    out[..room].fill(UNTOUCHED);
     same_reading(case, &mut input[..size], &mut out[..room])
 }
 
 fn main(rt: HostRuntime) -> io::Result<()> {
     let mut buf = [0u8; CASE_BYTES];
-    replay_cases(&rt, &mut buf, same_case)
+    let mut input = [0u8; INPUT];
+    let mut out = [0u32; OUTPUT];
+    replay_cases(&rt, &mut buf, |case| same_case(case, &mut input, &mut out))
 }

@@ -117,15 +117,17 @@ fn same_writing(case: &[u8], input: &mut [u32], out: &mut [u8]) -> bool {
     same_counted(answer, case, NUMBER) & same_output(case, &out[..])
 }
 
-fn same_case(case: &[u8]) -> bool {
-    let mut input = [0u32; INPUT];
-    let mut out = [MARK; OUTPUT];
+// The rooms are lent, so that a case costs what it has and not what they hold.
+fn same_case(case: &[u8], input: &mut [u32; INPUT], out: &mut [u8; OUTPUT]) -> bool {
     let size = points_size(case);
     let room = bytes_room(case);
+    out[..room].fill(MARK);
     same_writing(case, &mut input[..size], &mut out[..room])
 }
 
 fn main(rt: HostRuntime) -> io::Result<()> {
     let mut buf = [0u8; CASE_BYTES];
-    replay_cases(&rt, &mut buf, same_case)
+    let mut input = [0u32; INPUT];
+    let mut out = [0u8; OUTPUT];
+    replay_cases(&rt, &mut buf, |case| same_case(case, &mut input, &mut out))
 }

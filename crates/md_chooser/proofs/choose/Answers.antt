@@ -42,8 +42,14 @@ returns-in-Ok-Second c =
     let n = second_length _ _ _ _ c.part_length-n.ensures e in
     record { result_value = n.is ∙ chosen_second _ _ _ _ _ judged e; ref_ptr_value = from_second _ _ _ _ _ judged _ _ e }
 
-pub returns-in-Err : goal.returns-in-Err
-returns-in-Err c =
+pub returns-in-First : goal.returns-in-First
+returns-in-First c =
+    let judged = c.verdict-judged.ensures in
+    let e = c.in-Err.is in
+    record { result_value = chosen_refused _ _ _ _ _ judged _ e; ref_ptr_value = from_refused _ _ _ _ _ judged _ _ _ e }
+
+pub returns-in-Second : goal.returns-in-Second
+returns-in-Second c =
     let judged = c.verdict-judged.ensures in
     let e = c.in-Err.is in
     record { result_value = chosen_refused _ _ _ _ _ judged _ e; ref_ptr_value = from_refused _ _ _ _ _ judged _ _ _ e }

@@ -13,18 +13,18 @@ returns-then-wrong_ring c =
 
 pub returns-then-out-n : goal.returns-then-out-n
 returns-then-out-n c =
-    let told = flush_room _ _ _ _ _ (sym c.wrong_ring.ensures ∙ c.if-wrong_ring.false) (rw c.min-n.ensures at c.if-out-n.true) in
+    let told = flush_room c.args.ring.now c.args.head c.args.count c.args.most _ (sym c.wrong_ring.ensures ∙ c.if-wrong_ring.false) (omega arith) in
     record { value = rw c.refuse-then-out-n.ensures told.0; out_after = told.1 }
 
 pub copy_records-requires : goal.copy_records-requires
 copy_records-requires c =
     let good = good_ring _ _ _ (sym c.wrong_ring.ensures ∙ c.if-wrong_ring.false) in
-    (good_fewer _ _ _ _ good (omega (arith, c.min-n.ensures)), c.if-out-n.false)
+    (good_fewer _ _ _ _ good (omega arith), c.if-out-n.false)
 
 pub wrapped-next-requires : goal.wrapped-next-requires
 wrapped-next-requires c =
     let good = good_ring _ _ _ (sym c.wrong_ring.ensures ∙ c.if-wrong_ring.false) in
-    omega (arith, good.inside, good.held, c.min-n.ensures)
+    omega (arith, good.inside, good.held)
 
 pub overflow_cast-next : goal.overflow_cast-next
 overflow_cast-next c =
@@ -33,6 +33,5 @@ overflow_cast-next c =
 
 pub returns : goal.returns
 returns c =
-    let told = flush_kept _ _ _ _ _ (sym c.wrong_ring.ensures ∙ c.if-wrong_ring.false)
-    (rw c.min-n.ensures at c.if-out-n.false) in
-    record { value = rw (c.ring_kept.ensures, c.wrapped-next.ensures, c.min-n.ensures) told.0; out_after = rw (c.copy_records.ensures, c.min-n.ensures) told.1 }
+    let told = flush_kept c.args.ring.now c.args.head c.args.count c.args.most c.args.out.now (sym c.wrong_ring.ensures ∙ c.if-wrong_ring.false) (omega arith) in
+    record { value = cc told.0; out_after = cc told.1 }

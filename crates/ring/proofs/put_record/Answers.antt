@@ -1,6 +1,7 @@
 -- Each return is one of the causes, in their order, or the record behind the newest one. Assumes nothing.
-use mathlib.Core.Path.{sym, ◌∙◌}
+use mathlib.Core.Path.{sym, ap, ◌∙◌}
 use native.Mathlib.Omega.{arith}
+use lib.ListN.{length}
 use Rattle.ring_meaning.proofs.Laws.Calls.{put_bad, put_full, put_kept}
 use Rattle.ring_meaning.proofs.Laws.Record.{record_length}
 use Rattle.ring_meaning.proofs.Laws.Ring.{free_inside}
@@ -33,8 +34,8 @@ overflow_mul-free c =
 
 pub put_bytes-requires : goal.put_bytes-requires
 put_bytes-requires c =
-    rw (c.record_of-record.ensures, record_length)
-    (free_inside _ _ _ (good_ring _ _ _ (sym c.wrong_ring.ensures ∙ c.if-wrong_ring.false)) _ c.wrapped-free.ensures)
+    let inside = free_inside _ _ _ (good_ring _ _ _ (sym c.wrong_ring.ensures ∙ c.if-wrong_ring.false)) _ c.wrapped-free.ensures in
+    omega (arith, inside, ap length c.record_of-record.ensures, record_length c.args.verdict)
 
 pub overflow_add-count : goal.overflow_add-count
 overflow_add-count c =
@@ -44,5 +45,5 @@ overflow_add-count c =
 pub returns : goal.returns
 returns c =
     let room = c.if-unused-eq0.false in
-    let told = put_kept _ _ _ (sym c.wrong_ring.ensures ∙ c.if-wrong_ring.false) _ (λ e. room (omega (arith, e))) in
-    record { value = rw c.ring_kept.ensures told.0; ring_after = rw (c.put_bytes.ensures, c.wrapped-free.ensures, c.record_of-record.ensures) told.1 }
+    let told = put_kept c.args.ring.now c.args.head c.args.count (sym c.wrong_ring.ensures ∙ c.if-wrong_ring.false) c.args.verdict (λ e. room (omega (arith, e))) in
+    record { value = rw c.ring_kept.ensures told.0; ring_after = cc told.1 }

@@ -1,5 +1,6 @@
 -- One law for each return: the size, then the first bad entry. Assumes nothing.
 use mathlib.Core.Path.{sym, ap, ◌∙◌}
+use native.Mathlib.Omega.{arith}
 use Rattle.base.specs.Causes.{refused_at}
 use Rattle.base.specs.declared.refusals.Cause.TheVariants.{BadPage}
 use Rattle.page_meaning.proofs.Laws.Answer.{size_refused, entry_refused, none_refused}
@@ -11,7 +12,7 @@ returns-then-page-ne-PAGE_ENTRIES c = c.refuse.ensures ∙ sym (size_refused _ c
 pub returns-then-bad-lt-PAGE_ENTRIES : goal.returns-then-bad-lt-PAGE_ENTRIES
 returns-then-bad-lt-PAGE_ENTRIES c =
     c.refuse-then-bad-lt-PAGE_ENTRIES.ensures ∙ ap (refused_at BadPage) c.first_bad-bad.ensures
-    ∙ sym (entry_refused _ c.if-page-ne-PAGE_ENTRIES.false (rw c.first_bad-bad.ensures at c.if-bad-lt-PAGE_ENTRIES.true))
+    ∙ sym (entry_refused c.args.page.now c.if-page-ne-PAGE_ENTRIES.false (omega arith))
 
 pub returns : goal.returns
-returns c = sym (none_refused _ c.if-page-ne-PAGE_ENTRIES.false (rw c.first_bad-bad.ensures at c.if-bad-lt-PAGE_ENTRIES.false))
+returns c = sym (none_refused c.args.page.now c.if-page-ne-PAGE_ENTRIES.false (omega arith))

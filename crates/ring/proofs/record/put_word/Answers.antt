@@ -4,4 +4,5 @@ use Rattle.ring.proofs.record.put_word.Goals as goal
 
 pub returns : goal.returns
 returns c =
-    rw (c.put_bytes.ensures, c.to_le_bytes.ensures, word_bytes)
+    let bytes = word_bytes c.args.v in
+    cc

@@ -1,17 +1,14 @@
 -- Zeros, with each number's bytes put into their place. Assumes nothing.
+use Prim.Native.Nat.{◌+◌, ◌*◌, ◌/◌, ◌%◌}
+use mathlib.Core.Path.{◌≡◌}
+use native.Mathlib.Omega.{arith}
 use Rattle.ring_meaning.proofs.Laws.Record.{record_made}
 use Rattle.ring.proofs.Laws.Bytes.{wide_bytes}
 use Rattle.ring.proofs.record.record_of.Goals as goal
 
 pub returns : goal.returns
 returns c =
-    rw (
-      c.put_word-4.ensures,
-      c.put_word-3.ensures,
-      c.put_word-2.ensures,
-      c.put_word.ensures,
-      c.put_bytes.ensures,
-      c.to_le_bytes.ensures,
-      wide_bytes,
-    )
-    (record_made _)
+    let line = wide_bytes c.args.v.line in
+    let halves : c.args.v.line / 4294967296 * 4294967296 + c.args.v.line % 4294967296 ≡ c.args.v.line = omega arith in
+    let made = record_made c.args.v in
+    cc
